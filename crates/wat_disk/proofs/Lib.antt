@@ -1,0 +1,4 @@
+pub mod Stops
+pub mod Record
+mod Room
+mod Picked
