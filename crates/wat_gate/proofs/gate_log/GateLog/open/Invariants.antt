@@ -1,0 +1,18 @@
+use Rattle.std.proofs.Common.{◌≡◌, ◌≤◌, ◌-◌, length}
+use Rattle.wat_disk.specs.Disk.{SameFiles, EachStop, HasCause}
+use Rattle.wat_gate.specs.Bodies.{IsAtGate}
+use Rattle.wat_gate.proofs.gate_log.GateLog.open.Given as goal
+
+abbrev pub invariant-loop-next : goal.invariant-loop-next
+invariant-loop-next g l = record {
+  walk : g.D.Disk.tells_content → IsAtGate ((g.D.Disk.told l.fn.disk).content l.file.0) l.at l.frames;
+  size : g.D.Disk.tells_content → l.len ≡ length ((g.D.Disk.told l.fn.disk).content l.file.0);
+  counted : l.frames ≤ l.at;
+  within : l.at ≤ l.len;
+  content : SameFiles (g.D.Disk.told l.fn.disk).content (g.D.Disk.told l.disk).content;
+  stops : EachStop (g.D.Disk.told l.fn.disk) (g.D.Disk.told l.disk) SameFiles;
+  cause : HasCause (g.D.Disk.told l.fn.disk) (g.D.Disk.told l.disk) ⊥;
+}
+
+abbrev pub decreases-loop-next : goal.decreases-loop-next
+decreases-loop-next g l = l.len - l.at

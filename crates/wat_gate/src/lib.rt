@@ -1,0 +1,11 @@
+//! A log of frames in one file, each of which is there after a stop as a whole or not at all.
+#![tactic(auto)]
+
+mod frame;
+mod gate_log;
+
+pub use frame::Frame;
+pub use gate_log::{GateLog, GatePlace, GateRefusal};
+
+#[cfg(test)]
+mod tests;
