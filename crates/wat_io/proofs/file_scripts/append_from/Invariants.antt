@@ -1,0 +1,8 @@
+use Rattle.std.proofs.Common.{◌≡◌, ℕ, ◌+◌, ◌++◌, ◌≤◌, List, length}
+use Rattle.wat_io.proofs.file_scripts.append_from.Given as goal
+
+abbrev pub invariant-loop-left : goal.invariant-loop-left
+invariant-loop-left g l = (more : List ℕ) × (l.into.items ≡ l.fn.into.items ++ more) × (length more + l.left ≤ l.most)
+
+abbrev pub decreases-loop-left : goal.decreases-loop-left
+decreases-loop-left g l = l.left

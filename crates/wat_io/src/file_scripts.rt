@@ -1,0 +1,77 @@
+ghost use Rattle.std.specs.Prelude.{◌≡◌, ◌≢◌, ℕ, ◌++◌, ◌≤◌, List, length, None, OnOk};
+
+use crate::scripts::{ScriptError, Scripts};
+use std::fs;
+use std::io::Read;
+use std::rt::Files;
+
+/// Scripts in files, named by their paths. What the files hold is not told, and a file that is not there is Failed too.
+#[derive(Drop)]
+pub struct FileScripts<'a, R: Files> {
+    rt: &'a R,
+    faults: u64,
+}
+
+impl<'a, R: Files> FileScripts<'a, R> {
+    /// No read was made yet.
+    pub fn new(rt: &'a R) -> Self {
+        FileScripts { rt, faults: 0 }
+    }
+}
+
+/// Appends what the reader gives, up to `most` bytes.
+fn append_from<S: Read>(source: &mut S, most: usize, into: &mut Vec<u8>) -> Result<(), ScriptError>
+    ensures appends { (more : List ℕ) × (into.new.items ≡ into.old.items ++ more) × OnOk result (length more ≤ most) }
+    ensures present { result ≢ Err ScriptError.Absent }
+{
+    let mut piece = [0u8; 4096];
+    let mut left = most;
+    while left > 0 {
+        let want = left.min(piece.len());
+        let Ok(count) = source.read(&mut piece[..want]) else {
+            return Err(ScriptError::Failed);
+        };
+        if count == 0 {
+            return Ok(());
+        }
+        if into.extend_from_slice(&piece[..count]).is_err() {
+            return Err(ScriptError::Memory);
+        }
+        left -= count;
+    }
+    Ok(())
+}
+
+/// Appends what the file holds, up to `most` bytes.
+fn append_file<R: Files>(
+    rt: &R,
+    name: &str,
+    most: usize,
+    into: &mut Vec<u8>,
+) -> Result<(), ScriptError>
+    ensures appends { (more : List ℕ) × (into.new.items ≡ into.old.items ++ more) × OnOk result (length more ≤ most) }
+    ensures present { result ≢ Err ScriptError.Absent }
+{
+    let Ok(mut file) = fs::open(rt, name) else {
+        return Err(ScriptError::Failed);
+    };
+    append_from(&mut file, most, into)
+}
+
+impl<'a, R: Files> Scripts for FileScripts<'a, R> {
+    ghost texts = { λ _. None };
+
+    ghost faults = { λ scripts. scripts.faults };
+
+    fn read(&mut self, name: &str, most: usize, into: &mut Vec<u8>) -> Result<(), ScriptError> {
+        let before = into.len();
+        let answer = append_file(self.rt, name, most, into);
+        if let Err(error) = answer {
+            into.truncate(before);
+            if error == ScriptError::Failed {
+                self.faults = self.faults.saturating_add(1);
+            }
+        }
+        answer
+    }
+}
