@@ -1,0 +1,13 @@
+//! The types of a session: what the connections were asked, and what they were answered.
+#![tactic(auto)]
+
+mod answer;
+mod script;
+mod session;
+
+pub use answer::{Answer, Reason, Refusal, Reply, TableColumn};
+pub use script::{Script, ScriptList, Span, Spans};
+pub use session::{Entry, Moments, Session, Transcript, Transcripts};
+
+#[cfg(test)]
+mod tests;
