@@ -1,0 +1,4 @@
+pub mod GroupLemmas
+pub mod NumeralLemmas
+pub mod RowLemmas
+pub mod Histories

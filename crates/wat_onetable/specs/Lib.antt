@@ -1,0 +1,6 @@
+pub mod Cut
+pub mod Statement
+pub mod Table
+pub mod History
+pub mod Held
+pub mod Laws
