@@ -1,0 +1,65 @@
+-- What a refusal of the gate log, or of reading its frames, says of opening.
+use Rattle.std.proofs.Common.{◌≡◌, ◌≢◌, ⊎_elim, ℕ, ◌+◌, ◌-◌, ◌^◌, ◌≤◌, min, List, [], length, get_or, Result, Err, ℤ, refl, sym, subst, arith}
+use Rattle.wat_disk.specs.Disk.{Told, Rose}
+use Rattle.wat_gate.specs.declared.gate_log.GateRefusal.{GateRefusal}
+use Rattle.wat_gate.specs.declared.gate_log.GateRefusal.TheVariants as gate
+use Rattle.wat_gate.specs.Bodies.{IsBrokenAt, open_gate}
+use Rattle.wat_gate.specs.Refusal.{IfDamaged}
+use Rattle.wat_rowlog.specs.declared.opening.OpenWhy.{OpenWhy}
+use Rattle.wat_rowlog.specs.declared.opening.OpenWhy.TheVariants.{NoDatabase, Damaged, DiskFault, Memory}
+use Rattle.wat_rowlog.specs.Logged.{Restarts}
+use Rattle.wat_rowlog.specs.Opening.{MayOpen, MayRefuse}
+use Rattle.wat_rowlog.specs.Opened.{why_from}
+
+-- only a fault is handed on as one
+pub fault_from : (refusal : GateRefusal) → why_from refusal ≡ DiskFault → refusal ≡ gate.DiskFault
+fault_from gate.DiskFault e = refl
+fault_from (gate.Damaged at) e = cc
+fault_from gate.Memory e = cc
+
+-- a gate log that is broken at a gate isn't whole
+pub broken_no_rows : (content : List ℕ) (at : ℕ) → IsBrokenAt content at → (rows : List (ℤ × ℤ)) → Restarts content rows → ⊥
+broken_no_rows content at broken rows restarts =
+    let whole = restarts.logged.whole in
+    ⊎_elim
+    (λ (past : length content ≤ at). omega (arith, past, broken.place, whole.there))
+    (λ (opened : get_or content at 0 ≡ open_gate). whole.closed (subst (λ (n : ℕ). get_or content n 0 ≡ open_gate) broken.place opened))
+    broken.broken
+
+-- a refusal of the gate log over a file that isn't empty
+pub opening_refused : (tells : Type 0) (content : List ℕ) (rose : Type 0) (refusal : GateRefusal) → (refusal ≡ gate.DiskFault → rose) → (tells → content ≢ [])
+    → (tells → IfDamaged refusal (IsBrokenAt content)) → MayOpen tells content rose (Err (why_from refusal))
+opening_refused tells content rose gate.DiskFault fault some damaged = fault refl
+opening_refused tells content rose (gate.Damaged at) fault some damaged = λ t. record { there = some t; none = broken_no_rows content at (damaged t) }
+opening_refused tells content rose gate.Memory fault some damaged = tt
+
+-- a refusal of the gate log while its frames are read
+pub reading_refused : (tells : Type 0) (content : List ℕ) (rose : Type 0) (refusal : GateRefusal) → (refusal ≡ gate.DiskFault → rose)
+    → (tells → IfDamaged refusal (λ at. ⊥)) → MayRefuse tells content rose (why_from refusal)
+reading_refused tells content rose gate.DiskFault fault damaged = fault refl
+reading_refused tells content rose (gate.Damaged at) fault damaged = λ t. absurd (damaged t)
+reading_refused tells content rose gate.Memory fault damaged = tt
+
+-- a refusal of a later call
+pub refused_later : (tells : Type 0) (content before : List ℕ) (rose since : Type 0) (why : OpenWhy) → content ≡ before → (rose → since) → MayRefuse tells content rose why → MayRefuse tells before since why
+refused_later tells content before rose since NoDatabase same longer refused = refused
+refused_later tells content before rose since (Damaged at) same longer refused = λ t rows restarts. refused t rows (subst (λ (l : List ℕ). Restarts l rows) (sym same) restarts)
+refused_later tells content before rose since DiskFault same longer refused = longer refused
+refused_later tells content before rose since Memory same longer refused = tt
+
+-- a refusal of the frames is one of the log
+pub opening_of : (tells : Type 0) (content : List ℕ) (rose : Type 0) (why : OpenWhy) → (tells → content ≢ []) → MayRefuse tells content rose why → MayOpen tells content rose (Err why)
+opening_of tells content rose NoDatabase some refused = absurd refused
+opening_of tells content rose (Damaged at) some refused = λ t. record { there = some t; none = refused t }
+opening_of tells content rose DiskFault some refused = refused
+opening_of tells content rose Memory some refused = tt
+
+pub same_why : {T : Type 0} (a b : OpenWhy) → ◌≡◌ {A = Result T OpenWhy} (Err a) (Err b) → a ≡ b
+same_why a b e = cc
+
+-- a count that rose since a later moment rose since an earlier one
+rises : (before mid now last : ℕ) → before ≤ mid → min (mid + 1) last ≤ now → min (before + 1) last ≤ now
+rises before mid now last less rose = omega arith
+
+pub rose_since : (old mid new : Told) → old.faults ≤ mid.faults → Rose mid new → Rose old new
+rose_since old mid new less rose = rises old.faults mid.faults new.faults (2 ^ 64 - 1) less rose

@@ -1,0 +1,58 @@
+use Rattle.std.proofs.Common.{◌≡◌, ◌≢◌, ◌≤◌, ℕ, List, [], length, Err, sym, ◌∙◌, ap, subst, arith}
+use Rattle.wat_disk.specs.Disk.{Rose}
+use Rattle.wat_disk.proofs.Stops.{both_same}
+use Rattle.wat_gate.specs.Bodies.{IsBrokenAt}
+use Rattle.wat_gate.specs.GateLog.{file_of}
+use Rattle.wat_gate.specs.Refusal.{IfDamaged}
+use Rattle.wat_rowlog.specs.declared.opening.OpenWhy.{OpenWhy}
+use Rattle.wat_rowlog.specs.declared.opening.OpenWhy.TheVariants.{DiskFault}
+use Rattle.wat_rowlog.specs.Opening.{MayOpen}
+use Rattle.wat_rowlog.proofs.Refused.{fault_from, opening_refused, opening_of, refused_later, rose_since, same_why}
+use Rattle.wat_rowlog.proofs.opening.open.Goals as goal
+
+pub returns-in-Err-open-clause-answer : goal.returns-in-Err-open-clause-answer
+returns-in-Err-open-clause-answer g c =
+    let old = g.D.Disk.told c.args.disk.now in
+    let mid = g.D.Disk.told c.length.new.self in
+    let new = g.D.Disk.told c.open.new.disk in
+    let content = old.content 2 in
+    let some : g.D.Disk.tells_content → content ≢ [] = λ tells none. omega (arith, c.in-Ok.field-0-test, c.in-Ok.ensures.length tells, ap length none) in
+    subst (λ (why : OpenWhy). MayOpen g.D.Disk.tells_content content (Rose old new) (Err why)) (sym c.why_of.ensures)
+    (opening_refused g.D.Disk.tells_content content (Rose old new) c.in-Err-open.refusal
+    (λ fault. rose_since old mid new c.length.ensures.counts.never_falls (c.open.ensures.cause.rose (c.in-Err-open.is ∙ ap Err fault)))
+    some
+    (λ tells. subst (λ (l : List ℕ). IfDamaged c.in-Err-open.refusal (IsBrokenAt l)) (c.length.ensures.content 2) (c.in-Err-open.ensures.damaged tells)))
+
+pub returns-in-Err-open-clause-stops : goal.returns-in-Err-open-clause-stops
+returns-in-Err-open-clause-stops g c = both_same _ _ _ c.length.ensures.stops c.open.ensures.stops
+
+pub returns-in-Err-open-clause-cause : goal.returns-in-Err-open-clause-cause
+returns-in-Err-open-clause-cause g c =
+    let old = g.D.Disk.told c.args.disk.now in
+    let mid = g.D.Disk.told c.length.new.self in
+    let new = g.D.Disk.told c.open.new.disk in
+    record {
+      later = omega (arith, c.length.ensures.stops.later, c.open.ensures.cause.later);
+      never_falls = omega (arith, c.length.ensures.counts.never_falls, c.open.ensures.cause.never_falls);
+      rose = λ e. rose_since old mid new c.length.ensures.counts.never_falls
+          (c.open.ensures.cause.rose (c.in-Err-open.is ∙ ap Err (fault_from c.in-Err-open.refusal (sym c.why_of.ensures ∙ same_why c.why_of.result DiskFault e))));
+    }
+
+pub returns-in-Ok-read_rows-clause-stops : goal.returns-in-Ok-read_rows-clause-stops
+returns-in-Ok-read_rows-clause-stops g c = both_same _ _ _ (both_same _ _ _ c.length.ensures.stops c.open.ensures.stops) c.read_rows.ensures.stops
+
+pub returns-in-Err-read_rows-clause-answer : goal.returns-in-Err-read_rows-clause-answer
+returns-in-Err-read_rows-clause-answer g c =
+    let old = g.D.Disk.told c.args.disk.now in
+    let mid = g.D.Disk.told c.open.new.disk in
+    let new = g.D.Disk.told c.read_rows.new.disk in
+    let content = old.content 2 in
+    let file = file_of c.in-Ok-open.log in
+    let some : g.D.Disk.tells_content → content ≢ [] = λ tells none. omega (arith, c.in-Ok.field-0-test, c.in-Ok.ensures.length tells, ap length none) in
+    let same : mid.content file ≡ content = ap (λ (f : ℕ). mid.content f) c.in-Ok-open.ensures.file ∙ c.open.ensures.content 2 ∙ c.length.ensures.content 2 in
+    let less : old.faults ≤ mid.faults = omega (arith, c.length.ensures.counts.never_falls, c.open.ensures.cause.never_falls) in
+    opening_of g.D.Disk.tells_content content (Rose old new) c.in-Err-read_rows.why some
+    (refused_later g.D.Disk.tells_content (mid.content file) content (Rose mid new) (Rose old new) c.in-Err-read_rows.why same (rose_since old mid new less) c.in-Err-read_rows.ensures.refused)
+
+pub returns-in-Err-read_rows-clause-stops : goal.returns-in-Err-read_rows-clause-stops
+returns-in-Err-read_rows-clause-stops g c = both_same _ _ _ (both_same _ _ _ c.length.ensures.stops c.open.ensures.stops) c.read_rows.ensures.stops

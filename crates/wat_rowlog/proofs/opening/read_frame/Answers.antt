@@ -1,0 +1,50 @@
+use Rattle.std.proofs.Common.{◌+◌, ◌<◌, ℕ, List, length, get_or, take, [], ◌++◌, Err, sym, ◌∙◌, ap, subst, arith}
+use Rattle.wat_gate.specs.Bodies.{bodies}
+use Rattle.wat_gate.specs.GateLog.{file_of, bodies_in}
+use Rattle.wat_disk.specs.Disk.{Rose}
+use Rattle.wat_rowlog.specs.declared.opening.OpenWhy.TheVariants.{DiskFault}
+use Rattle.wat_rowlog.specs.Opening.{MayRefuse}
+use Rattle.wat_rowlog.specs.Reading.{ReadsBody, ReadsBodies, IsNoBody}
+use Rattle.wat_rowlog.proofs.Bodies.{body_read, body_refused, no_rows, on_true, on_false}
+use Rattle.wat_rowlog.proofs.Refused.{fault_from, reading_refused, same_why}
+use Rattle.wat_rowlog.proofs.opening.read_frame.Goals as goal
+
+pub returns-in-Err-clause-refused : goal.returns-in-Err-clause-refused
+returns-in-Err-clause-refused g c =
+    let old = g.D.Disk.told c.args.disk.now in
+    let new = g.D.Disk.told c.frame_at.new.disk in
+    let content = old.content (file_of c.args.log.now) in
+    subst (MayRefuse g.D.Disk.tells_content content (Rose old new)) (sym c.why_of.ensures)
+    (reading_refused g.D.Disk.tells_content content (Rose old new) c.in-Err.refusal
+    (λ fault. c.frame_at.ensures.cause.rose (c.in-Err.is ∙ ap Err fault))
+    c.in-Err.ensures.undamaged)
+
+pub returns-in-Err-clause-cause : goal.returns-in-Err-clause-cause
+returns-in-Err-clause-cause g c = record {
+  later = c.frame_at.ensures.cause.later;
+  never_falls = c.frame_at.ensures.cause.never_falls;
+  rose = λ e. c.frame_at.ensures.cause.rose (c.in-Err.is ∙ ap Err (fault_from c.in-Err.refusal (sym c.why_of.ensures ∙ same_why c.why_of.result DiskFault e)));
+}
+
+pub returns-in-Ok-true-clause-read : goal.returns-in-Ok-true-clause-read
+returns-in-Ok-true-clause-read g c tells =
+    let all = bodies_in (g.D.Disk.told c.args.disk.now) c.args.log.now in
+    let gate = c.args.place.gate in
+    let there : gate < length all = omega (arith, (c.requires.known tells).frames, c.requires.frame) in
+    let body = c.deref.ensures.value ∙ c.in-Ok.ensures.body tells ∙ ap (λ (l : List ℕ). l ++ get_or all gate []) c.clear.ensures.items in
+    let full = on_true c.in-Ok-true.field-0 (0 < length c.deref.result.now) c.in-Ok-true.field-0-test c.in-Ok-true.ensures.full in
+    let read_in = on_true c.in-Ok-true.field-0 (ReadsBody c.args.rows.now.entries c.deref.result.now c.read_body.new.rows.entries) c.in-Ok-true.field-0-test c.in-Ok-true.ensures.read in
+    let read : ReadsBodies (take (gate + 1) all) c.read_body.new.rows.entries =
+    body_read all gate c.deref.result.now c.args.rows.now.entries c.read_body.new.rows.entries (c.requires.so_far tells) there body full read_in in
+    subst (λ (n : ℕ). ReadsBodies (take n (bodies_in (g.D.Disk.told c.frame_at.new.disk) c.args.log.now)) c.read_body.new.rows.entries) (sym c.in-Ok.ensures.one_more)
+    (subst (λ (l : List ℕ). ReadsBodies (take (gate + 1) (bodies l)) c.read_body.new.rows.entries) (sym (c.frame_at.ensures.content (file_of c.args.log.now))) read)
+
+pub returns-in-Ok-false-clause-refused : goal.returns-in-Ok-false-clause-refused
+returns-in-Ok-false-clause-refused g c tells =
+    let all = bodies_in (g.D.Disk.told c.args.disk.now) c.args.log.now in
+    let gate = c.args.place.gate in
+    let there : gate < length all = omega (arith, (c.requires.known tells).frames, c.requires.frame) in
+    let body = c.deref.ensures.value ∙ c.in-Ok.ensures.body tells ∙ ap (λ (l : List ℕ). l ++ get_or all gate []) c.clear.ensures.items in
+    let none = on_false c.in-Ok-false.field-0 (IsNoBody c.args.rows.now.entries c.deref.result.now) c.in-Ok-false.field-0-test c.in-Ok-false.ensures.none in
+    no_rows ((g.D.Disk.told c.args.disk.now).content (file_of c.args.log.now)) (gate + 1)
+    (body_refused all gate c.deref.result.now c.args.rows.now.entries (c.requires.so_far tells) there body none)

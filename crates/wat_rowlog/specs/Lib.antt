@@ -1,0 +1,5 @@
+pub mod Laws
+pub mod Logged
+pub mod Opened
+pub mod Opening
+pub mod Reading
