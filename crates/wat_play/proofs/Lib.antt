@@ -1,0 +1,5 @@
+mod BodyLemmas
+mod EntriesLemmas
+mod RowsLemmas
+mod SessionLemmas
+mod StopsLemmas

@@ -1,0 +1,10 @@
+//! The session of one script over the table t and its log.
+#![tactic(auto)]
+
+mod player;
+mod playing;
+mod saving;
+#[cfg(test)]
+mod tests;
+
+pub use playing::{Played, play};

@@ -1,0 +1,162 @@
+ghost use Rattle.std.specs.Prelude.{◌≡◌, ◌≢◌, ◌+◌, ◌≤◌, ◌++◌, [], ℕ, length, map, None, Some, IfOk, OnErr, All};
+ghost use Rattle.wat_disk.specs.Disk.{IsSynced, SameFiles, SameOthers, EachStop, Rose};
+ghost use Rattle.wat_gate.specs.GateLog.{file_of, IsLogOf};
+ghost use Rattle.wat_onetable.specs.Cut.{groups_of, IsPart};
+ghost use Rattle.wat_onetable.specs.Table.{begun};
+ghost use Rattle.wat_onetable.specs.History.{Fits, history_of, rows_after, span_of, stopped_answers};
+ghost use Rattle.wat_rowlog.specs.Opened.{IsOpened};
+ghost use Rattle.wat_rowlog.specs.Logged.{Restarts};
+ghost use Rattle.wat_play.specs.Kept.{answered_of, cut_of, KeepsCommits, AreMoments, last_moment};
+ghost use Rattle.wat_play.specs.Session.{stopped_at, unanswered, IsAnswered, IsSession};
+
+use crate::player::Player;
+use std::alloc::Global;
+use wat_conn::{Answer, Entry, Moments, Reason, Span, Transcript};
+use wat_disk::Disk;
+use wat_list::{NoMemory, Reserved};
+use wat_onetable::{Table, groups, read_statement, text_of};
+use wat_rowlog::{LOG, Opened};
+
+/// What playing a script came to.
+#[derive(Debug, Drop)]
+pub struct Played {
+    /// An entry for each statement.
+    pub transcript: Transcript,
+    /// The disk's moment at which each commit was acknowledged.
+    pub moments: Moments,
+    /// Why the session stopped, if it did.
+    pub stop: Option<Reason>,
+}
+
+/// Answers the statements in order, up to the first that stops the session.
+fn answer_until_stop<D: Disk>(
+    alloc: Global,
+    script: &str,
+    spans: &[Span],
+    player: &mut Player,
+    disk: &mut D,
+    entries: &mut Reserved<Entry>,
+) -> Option<Reason>
+    requires spans { spans.now ≡ groups_of script.now }
+    requires parts { All (IsPart script.now) spans.now }
+    requires short { length script.now ≤ 16777216 }
+    requires count { length spans.now ≤ length script.now }
+    requires begun { player.old.table ≡ begun player.old.table.rows }
+    requires none { entries.old.items ≡ [] }
+    requires no_moments { player.old.moments.items ≡ [] }
+    requires entry_room { length spans.now ≤ entries.old.spare }
+    requires moment_room { length spans.now ≤ player.old.moments.spare }
+    requires known { D.tells_content → IsLogOf (D.told disk.old) player.old.log }
+    requires restarts { D.tells_content → Restarts ((D.told disk.old).content (file_of player.old.log)) player.old.table.rows }
+    ensures answered { IsAnswered player.old.table.rows script.now result entries.new.items }
+    ensures session { IsSession D.tells_content (D.told disk.old) (D.told disk.new) (file_of player.old.log) player.old.table.rows script.now (length entries.new.items) result player.new.moments.items }
+    ensures stops { D.tells_content → IsSynced (D.told disk.old) (file_of player.old.log) →
+        KeepsCommits (D.told disk.old) (D.told disk.new) (file_of player.old.log) player.old.table.rows
+        (history_of player.old.table.rows script.now (length entries.new.items)) player.new.moments.items
+        (cut_of result player.old.table.rows script.now (length entries.new.items)) }
+    ensures room { length spans.now ≤ length entries.new.items + entries.new.spare }
+{
+    for span in spans {
+        match player.answer(alloc, read_statement(text_of(script, *span)), disk) {
+            Ok(answer) => entries.push(Entry {
+                from: span.from,
+                to: span.to,
+                answer,
+            }),
+            Err(reason) => return Some(reason),
+        }
+    }
+    None
+}
+
+/// Adds the entries of the statements at these places, all of which are this stop.
+fn push_stopped(spans: &[Span], reason: Reason, entries: &mut Reserved<Entry>)
+    requires { length spans.now ≤ entries.old.spare }
+    ensures { entries.new.items ≡ entries.old.items ++ map (stopped_at reason) spans.now }
+{
+    for span in spans {
+        entries.push(Entry {
+            from: span.from,
+            to: span.to,
+            answer: Answer::Stopped { reason },
+        });
+    }
+}
+
+/// Adds the entries of the statements that weren't answered, if the session stopped.
+fn push_unanswered(spans: &[Span], stop: Option<Reason>, entries: &mut Reserved<Entry>)
+    requires { length spans.now ≤ entries.old.spare }
+    ensures { entries.new.items ≡ entries.old.items ++ unanswered stop spans.now }
+{
+    if let Some(reason) = stop {
+        push_stopped(spans, reason, entries);
+    }
+}
+
+/// An empty list with room for so many items.
+fn with_room<T: Drop>(alloc: Global, n: usize) -> Result<Reserved<T>, NoMemory>
+    ensures items { IfOk result (λ list. list.items ≡ []) }
+    ensures room { IfOk result (λ list. n ≤ list.spare) }
+{
+    let mut list = Reserved::new(alloc);
+    list.reserve(n)?;
+    Ok(list)
+}
+
+/// Answers the statements of a script in order, over what was opened on this disk. Without memory for the entries no
+/// session begins.
+pub fn play<D: Disk>(
+    alloc: Global,
+    script: &str,
+    opened: Opened,
+    disk: &mut D,
+) -> Result<Played, NoMemory>
+    requires short { length script.now ≤ 16777216 }
+    requires file { file_of opened.log ≡ LOG.0 }
+    requires opened { D.tells_content → IsOpened (D.told disk.old) opened }
+
+    // Each statement has its entry, with the answer over the opened rows, or the stop.
+    ensures fits { IfOk result (λ played.
+        Fits opened.rows.entries script.now played.stop (answered_of played.transcript) played.transcript) }
+    ensures commits { IfOk result (λ played.
+        length played.moments ≡ length (history_of opened.rows.entries script.now (answered_of played.transcript))) }
+    ensures moments { IfOk result (λ played. AreMoments (D.told disk.old).moment (D.told disk.new).moment played.moments) }
+    // Without a disk fault, no call on the disk is made after the last commit.
+    ensures calls { IfOk result (λ played. played.stop ≢ Some Reason.DiskFault → (D.told disk.new).moment ≡ last_moment (D.told disk.old).moment played.moments) }
+    ensures disk_fault { IfOk result (λ played. played.stop ≡ Some Reason.DiskFault → Rose (D.told disk.old) (D.told disk.new)) }
+    ensures never_falls { (D.told disk.old).faults ≤ (D.told disk.new).faults }
+
+    // Where nothing stopped, restart gives the rows after all transactions.
+    ensures kept { D.tells_content → IfOk result (λ played. played.stop ≡ None → Restarts ((D.told disk.new).content LOG.0)
+        (rows_after opened.rows.entries (history_of opened.rows.entries script.now (answered_of played.transcript)))) }
+    ensures others { SameOthers LOG.0 (D.told disk.old).content (D.told disk.new).content }
+
+    // A stop at any moment leaves a log that keeps each commit acknowledged by then.
+    ensures stops { D.tells_content → IsSynced (D.told disk.old) LOG.0 → IfOk result (λ played.
+        KeepsCommits (D.told disk.old) (D.told disk.new) LOG.0 opened.rows.entries
+        (history_of opened.rows.entries script.now (answered_of played.transcript)) played.moments
+        (cut_of played.stop opened.rows.entries script.now (answered_of played.transcript))) }
+
+    // Where no session began, nothing was written.
+    ensures not_begun { OnErr result (SameFiles (D.told disk.old).content (D.told disk.new).content) }
+    ensures not_begun_stops { OnErr result (EachStop (D.told disk.old) (D.told disk.new) SameFiles) }
+{
+    let spans = groups(alloc, script)?;
+    let count = spans.len();
+    let mut entries = with_room(alloc, count)?;
+    let moments = with_room(alloc, count)?;
+    let Opened { log, rows } = opened;
+    let mut player = Player {
+        table: Table::new(rows),
+        log,
+        moments,
+    };
+    let spans = spans.as_slice();
+    let stop = answer_until_stop(alloc, script, spans, &mut player, disk, &mut entries);
+    push_unanswered(&spans[entries.len()..], stop, &mut entries);
+    Ok(Played {
+        transcript: entries.into_items(),
+        moments: player.moments.into_items(),
+        stop,
+    })
+}
