@@ -1,0 +1,73 @@
+use super::*;
+use std::alloc::{AllocError, Global};
+use std::test::Fail;
+use wat_io::MemoryScripts;
+
+/// The words of a line, with one space between.
+fn words_of(alloc: Global, line: &str) -> Result<Vec<String>, AllocError> {
+    let mut words = Vec::new(alloc);
+    for word in line.split(' ') {
+        words.push(String::from_str(alloc, word)?)?;
+    }
+    Ok(words)
+}
+
+#[test]
+fn words_are_run_and_a_script_or_no_command(rt: HostRuntime) -> Result<(), Fail> {
+    let lines = [
+        ("run a.sql", Some("a.sql")),
+        ("run run", Some("run")),
+        ("run ", Some("")),
+        ("run", None),
+        ("run a.sql b.sql", None),
+        ("run -a.sql", None),
+        ("run -", None),
+        ("-run a.sql", None),
+        ("Run a.sql", None),
+        ("runs a.sql", None),
+        ("play a.sql", None),
+        ("", None),
+    ];
+    for (line, script) in lines {
+        let words = words_of(rt.alloc(), line)?;
+        match (read_words(&words), script) {
+            (Some((Command::Run, [name])), Some(script)) => {
+                assert_eq!(rt; name.as_str(), script, "{line}")
+            }
+            (None, None) => {}
+            _ => assert!(rt; false, "{line}"),
+        }
+    }
+    assert!(rt; read_words(&[]).is_none());
+    Ok(())
+}
+
+#[test]
+fn scripts_are_read_in_order_up_to_the_first_fault(rt: HostRuntime) -> Result<(), Fail> {
+    let alloc = rt.alloc();
+    let readings = [
+        ("a a", None),
+        ("a none bytes", Some(Fault::CannotRead { script: 2 })),
+        ("bytes none", Some(Fault::NotText { script: 1, at: 2 })),
+        ("none", Some(Fault::CannotRead { script: 1 })),
+        ("a a", Some(Fault::CannotRead { script: 2 })),
+    ];
+    let names = words_of(alloc, "a bytes")?;
+    let a = Vec::from_slice(alloc, "é;".as_bytes())?;
+    let bytes = Vec::from_slice(alloc, b"SE\xff")?;
+    let texts = vec![in alloc; a, bytes]?;
+    assert_eq!(rt; texts.len(), names.len());
+    let mut scripts = MemoryScripts::new(names, texts, Vec::from_slice(alloc, &[7])?);
+    for (line, fault) in readings {
+        match read_scripts(alloc, &words_of(alloc, line)?, &mut scripts) {
+            Ok(texts) => {
+                assert!(rt; fault.is_none(), "{line}");
+                for text in texts.as_slice() {
+                    assert_eq!(rt; text.as_str(), "é;", "{line}");
+                }
+            }
+            Err(found) => assert_eq!(rt; Some(found), fault, "{line}"),
+        }
+    }
+    Ok(())
+}
