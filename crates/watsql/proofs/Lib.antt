@@ -1,0 +1,5 @@
+pub mod SinkLemmas
+pub mod SessionLemmas
+pub mod CalledLemmas
+pub mod EndingLemmas
+pub mod UntouchedLemmas

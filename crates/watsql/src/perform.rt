@@ -1,0 +1,100 @@
+ghost use Rattle.std.specs.Prelude.{◌≡◌, ◌≤◌, List, ℤ, None, map, string_bytes, Result, IfOk, OnErr, IsOkUnless};
+ghost use Rattle.wat_disk.specs.Disk.{SameFiles, EachStop, Rose, HasCause};
+ghost use Rattle.wat_gate.specs.GateLog.{file_of};
+ghost use Rattle.wat_rowlog.specs.Opening.{MayOpen};
+ghost use Rattle.wat_rowlog.specs.Opened.{IsOpened, answer_of};
+ghost use Rattle.wat_begin.specs.Words.{command_of};
+ghost use Rattle.watsql.specs.Ending.{Ends, IsOneText, IsSession, IsUntouched};
+ghost use Rattle.watsql.specs.Called.{opened, rows_of};
+
+use std::alloc::Global;
+use wat_begin::{Command, Fault, read_scripts, read_words};
+use wat_conn::{ScriptList, Session};
+use wat_disk::Disk;
+use wat_io::Scripts;
+use wat_list::{Reserved, item};
+use wat_play::play;
+use wat_rowlog::{LOG, OpenWhy, Opened, open};
+
+/// Opens the log.
+fn open_log<D: Disk>(alloc: Global, disk: &mut D) -> Result<Opened, Fault>
+    ensures opening { (opening : Result (List (ℤ × ℤ)) OpenWhy) × MayOpen D.tells_content ((D.told disk.old).content LOG.0) (Rose (D.told disk.old) (D.told disk.new)) opening
+        × (rows_of result ≡ opened opening) }
+    ensures log { D.tells_content → IfOk result (IsOpened (D.told disk.new)) }
+    ensures file { IfOk result (λ opened. file_of opened.log ≡ LOG.0) }
+    ensures untouched { IsUntouched (D.told disk.old) (D.told disk.new) }
+    ensures never_falls { (D.told disk.old).faults ≤ (D.told disk.new).faults }
+{
+    match open(alloc, disk) {
+        Ok(opened) => Ok(opened),
+        Err(OpenWhy::NoDatabase) => Err(Fault::NoDatabase),
+        Err(OpenWhy::Damaged { at }) => Err(Fault::Damaged { at }),
+        Err(OpenWhy::DiskFault) => Err(Fault::DiskFault),
+        Err(OpenWhy::Memory) => Err(Fault::Memory),
+    }
+}
+
+/// Plays the one script over what was opened.
+fn play_script<D: Disk>(
+    alloc: Global,
+    texts: ScriptList,
+    opened: Opened,
+    disk: &mut D,
+) -> Result<Session, Fault>
+    requires one { IsOneText texts }
+    requires file { file_of opened.log ≡ LOG.0 }
+    requires opened { D.tells_content → IsOpened (D.told disk.old) opened }
+    ensures session { IfOk result (IsSession D.tells_content (D.told disk.old) (D.told disk.new) texts opened.rows.entries) }
+    ensures memory { IsOkUnless result Fault.Memory }
+    ensures never_falls { (D.told disk.old).faults ≤ (D.told disk.new).faults }
+    ensures untouched { OnErr result (IsUntouched (D.told disk.old) (D.told disk.new)) }
+{
+    // The room for the transcript is made before the disk is changed.
+    let mut transcripts = Reserved::new(alloc);
+    if transcripts.reserve(1).is_err() {
+        return Err(Fault::Memory);
+    }
+    let played = match play(alloc, item(&texts, 0).as_str(), opened, disk) {
+        Ok(played) => played,
+        Err(_) => return Err(Fault::Memory),
+    };
+    transcripts.push(played.transcript);
+    Ok(Session {
+        scripts: texts,
+        transcripts: transcripts.into_items(),
+        moments: played.moments,
+        stop: played.stop,
+    })
+}
+
+/// Does what the words call for.
+pub fn perform<L: Scripts, D: Disk>(
+    alloc: Global,
+    words: &[String],
+    scripts: &mut L,
+    disk: &mut D,
+) -> Result<Session, Fault>
+    ensures ends { Ends (record {
+      texts = L.texts scripts.old;
+      script_faults_before = L.faults scripts.old;
+      script_faults = L.faults scripts.new;
+      tells = D.tells_content;
+      disk_before = D.told disk.old;
+      disk = D.told disk.new;
+    }) (map string_bytes words.now) result }
+    ensures usage { command_of (map string_bytes words.now) ≡ None → result ≡ Err Fault.Usage }
+    ensures untouched { OnErr result (IsUntouched (D.told disk.old) (D.told disk.new)) }
+{
+    let Some((Command::Run, names)) = read_words(words) else {
+        return Err(Fault::Usage);
+    };
+    let texts = match read_scripts(alloc, names, scripts) {
+        Ok(texts) => texts,
+        Err(fault) => return Err(fault),
+    };
+    let opened = match open_log(alloc, disk) {
+        Ok(opened) => opened,
+        Err(fault) => return Err(fault),
+    };
+    play_script(alloc, texts, opened, disk)
+}

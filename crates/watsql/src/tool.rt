@@ -1,0 +1,118 @@
+ghost use Rattle.std.specs.Prelude.{◌≡◌, ◌≢◌, ◌⊎◌, ◌↔◌, None, map, string_bytes, IsSome};
+ghost use Rattle.wat_io.specs.Faults.{Rose};
+ghost use Rattle.wat_begin.specs.Words.{command_of};
+ghost use Rattle.watsql.specs.Ending.{Ends, IsNoSession, IsUntouched, IsWell, ended};
+ghost use Rattle.watsql.specs.Reporting.{Reports};
+
+use crate::perform::perform;
+use crate::report::report;
+use std::alloc::Global;
+use std::sync::Wait;
+use std::thread::Threads;
+use wat_begin::Fault;
+use wat_conn::Session;
+use wat_disk::Disk;
+use wat_io::{Gate, Scripts, Sink};
+
+/// What a call of the program leaves.
+#[derive(Drop)]
+pub struct Finish<D> {
+    /// The status that the program ends with.
+    pub status: u8,
+    /// Why no session began; none where one began.
+    pub fault: Option<Fault>,
+    pub disk: D,
+    /// The session; one in which nothing was asked where none began.
+    pub session: Session,
+}
+
+/// Does what the words after the program's name call for, and writes its text to `out`.
+pub fn run_tool<L: Scripts, D: Disk, K: Sink>(
+    alloc: Global,
+    words: &[String],
+    scripts: &mut L,
+    disk: D,
+    out: &mut K,
+) -> Finish<D>
+    // The call ends as the words call for, by what the scripts and the disk hold, or by a fault that has its cause.
+    ensures ends { Ends (record {
+      texts = L.texts scripts.old;
+      script_faults_before = L.faults scripts.old;
+      script_faults = L.faults scripts.new;
+      tells = D.tells_content;
+      disk_before = D.told disk;
+      disk = D.told result.disk;
+    }) (map string_bytes words.now) (ended result.fault result.session) }
+    ensures nothing_asked { IsSome result.fault → IsNoSession result.session }
+    ensures untouched { IsSome result.fault → IsUntouched (D.told disk) (D.told result.disk) }
+
+    // What is written and the status are those of this end.
+    ensures reports { Reports (K.taken out.old) (K.taken out.new) (K.faults out.old) (K.faults out.new)
+        (ended result.fault result.session) result.status }
+
+    // Status 1 stands for words that are no command, and where all is well the status is 0, unless memory was wanted.
+    ensures usage { (result.status ≡ 1) ↔ (command_of (map string_bytes words.now) ≡ None) }
+    ensures well { IsWell (record {
+      texts = L.texts scripts.old;
+      script_faults_before = L.faults scripts.old;
+      script_faults = L.faults scripts.new;
+      tells = D.tells_content;
+      disk_before = D.told disk;
+      disk = D.told result.disk;
+    }) (map string_bytes words.now) → ¬ Rose (K.faults out.old) (K.faults out.new) → (result.status ≡ 0) ⊎ (result.status ≡ 7) }
+{
+    let mut disk = disk;
+    let ended = perform(alloc, words, scripts, &mut disk);
+    let status = report(alloc, &ended, out);
+    let (fault, session) = match ended {
+        Ok(session) => (None, session),
+        Err(fault) => (Some(fault), Session::new(alloc)),
+    };
+    Finish {
+        status,
+        fault,
+        disk,
+        session,
+    }
+}
+
+/// Does all that the program does: what `run_tool` does. No command needs threads yet, so that nothing waits and no step
+/// meets the gate.
+pub fn run<R: Threads + Wait + Sync, L: Scripts, D: Disk + Send, G: Gate + Sync, K: Sink>(
+    _rt: &R,
+    alloc: Global,
+    words: &[String],
+    scripts: &mut L,
+    disk: D,
+    _gate: &G,
+    out: &mut K,
+) -> Finish<D>
+    // As of `run_tool`.
+    ensures ends { Ends (record {
+      texts = L.texts scripts.old;
+      script_faults_before = L.faults scripts.old;
+      script_faults = L.faults scripts.new;
+      tells = D.tells_content;
+      disk_before = D.told disk;
+      disk = D.told result.disk;
+    }) (map string_bytes words.now) (ended result.fault result.session) }
+    ensures nothing_asked { IsSome result.fault → IsNoSession result.session }
+    ensures untouched { IsSome result.fault → IsUntouched (D.told disk) (D.told result.disk) }
+
+    // What is written and the status are those of this end.
+    ensures reports { Reports (K.taken out.old) (K.taken out.new) (K.faults out.old) (K.faults out.new)
+        (ended result.fault result.session) result.status }
+
+    // Status 1 stands for words that are no command, and where all is well the status is 0, unless memory was wanted.
+    ensures usage { (result.status ≡ 1) ↔ (command_of (map string_bytes words.now) ≡ None) }
+    ensures well { IsWell (record {
+      texts = L.texts scripts.old;
+      script_faults_before = L.faults scripts.old;
+      script_faults = L.faults scripts.new;
+      tells = D.tells_content;
+      disk_before = D.told disk;
+      disk = D.told result.disk;
+    }) (map string_bytes words.now) → ¬ Rose (K.faults out.old) (K.faults out.new) → (result.status ≡ 0) ⊎ (result.status ≡ 7) }
+{
+    run_tool(alloc, words, scripts, disk, out)
+}
