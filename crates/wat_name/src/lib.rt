@@ -1,0 +1,8 @@
+//! Names of tables, columns, indexes and savepoints.
+#![tactic(auto)]
+
+mod name;
+#[cfg(test)]
+mod tests;
+
+pub use name::Name;
