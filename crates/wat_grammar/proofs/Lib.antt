@@ -1,0 +1,7 @@
+pub mod Choice
+pub mod Complete
+pub mod Exact
+pub mod Online
+pub mod Outcomes
+pub mod Sound
+pub mod Viable
