@@ -14,7 +14,9 @@ pub struct FileScripts<'a, R: Files> {
 
 impl<'a, R: Files> FileScripts<'a, R> {
     /// No read was made yet.
-    pub fn new(rt: &'a R) -> Self {
+    pub fn new(rt: &'a R) -> Self
+        ensures { result.faults ≡ 0 }
+    {
         FileScripts { rt, faults: 0 }
     }
 }

@@ -1,4 +1,4 @@
-ghost use Rattle.std.specs.Prelude.{ℕ};
+ghost use Rattle.std.specs.Prelude.{◌≡◌, ℕ};
 
 use crate::sink::{Sink, SinkFault};
 use std::io::Write;
@@ -13,7 +13,9 @@ pub struct OutSink<W: Write> {
 
 impl<W: Write> OutSink<W> {
     /// No write was made yet.
-    pub fn new(out: W) -> Self {
+    pub fn new(out: W) -> Self
+        ensures { result.faults ≡ 0 }
+    {
         OutSink { out, faults: 0 }
     }
 }

@@ -209,21 +209,86 @@ fn each_status_has_its_cause(rt: HostRuntime) -> Result<(), Fail> {
 
 #[test]
 fn each_disk_call_may_fail(rt: HostRuntime) -> Result<(), Fail> {
-    let well = over(&[0], ONE_ROW.as_bytes());
-    let (clean, _) = call(rt.alloc(), "run a.sql", &well)?;
-    let calls = clean.disk.moment();
-    assert!(rt; calls > 4, "{calls}");
-    for moment in 0..calls {
-        let disk = Some(moment);
-        let (finish, wrote) = call(rt.alloc(), "run a.sql", &Around { disk, ..well })?;
-        // The last four calls are the commit's: a write and a sync of the frame, and of its gate.
-        let text = if calls - moment > 4 {
-            NO_DISK
-        } else {
-            ONE_ROW_FAULT
-        };
-        assert_eq!(rt; finish.status, 4, "{moment}");
-        assert_eq!(rt; wrote.as_slice(), text.as_bytes(), "{moment}");
+    // The last calls are those of the commit that has rows: a write and a sync of the frame, and of its gate.
+    let empty: &[u8] = &[0];
+    let logged: &[u8] = &ONE_ROW_LOG;
+    let rows = [
+        (empty, ONE_ROW, 4, ONE_ROW_FAULT),
+        (logged, REFUSALS, 0, NO_DISK),
+    ];
+    for (log, script, last, text_in_commit) in rows {
+        let well = over(log, script.as_bytes());
+        let (clean, _) = call(rt.alloc(), "run a.sql", &well)?;
+        let calls = clean.disk.moment();
+        assert!(rt; calls > 4, "{calls}");
+        for moment in 0..calls {
+            let disk = Some(moment);
+            let (finish, wrote) = call(rt.alloc(), "run a.sql", &Around { disk, ..well })?;
+            let text = if calls - moment > last {
+                NO_DISK
+            } else {
+                text_in_commit
+            };
+            assert_eq!(rt; finish.status, 4, "{script} {moment}");
+            assert_eq!(rt; wrote.as_slice(), text.as_bytes(), "{script} {moment}");
+        }
+    }
+    Ok(())
+}
+
+#[test]
+fn each_read_and_write_may_fail(rt: HostRuntime) -> Result<(), Fail> {
+    let read = Some(0);
+    for well in [
+        over(&[0], ONE_ROW.as_bytes()),
+        over(&ONE_ROW_LOG, REFUSALS.as_bytes()),
+    ] {
+        let (finish, wrote) = call(rt.alloc(), "run a.sql", &Around { read, ..well })?;
+        assert_eq!(rt; finish.status, 2);
+        assert_eq!(rt;
+            wrote.as_slice(),
+            b"watsql: cannot read script 1\n".as_slice()
+        );
+        let write = Some(0);
+        let (finish, wrote) = call(rt.alloc(), "run a.sql", &Around { write, ..well })?;
+        assert_eq!(rt; finish.status, 5);
+        assert!(rt; wrote.is_empty());
+    }
+
+    // A fault's text goes out in five writes, and keeps its status where one of them fails.
+    let whole = "watsql: script 1 is not text at 2\n";
+    for at in 0..5u64 {
+        let write = Some(at);
+        let well = over(&[0], b"SE\xff");
+        let (finish, wrote) = call(rt.alloc(), "run a.sql", &Around { write, ..well })?;
+        assert_eq!(rt; finish.status, 8, "{at}");
+        assert!(rt; wrote.len() < whole.len(), "{at}");
+        assert!(rt; whole.as_bytes().starts_with(&wrote), "{at}");
+    }
+    Ok(())
+}
+
+#[test]
+fn a_broken_log_is_damaged_at_its_gate(rt: HostRuntime) -> Result<(), Fail> {
+    let mut second_gate = ONE_ROW_LOG;
+    second_gate[25] = 0xa5;
+    let logs: [(&[u8], &str); 6] = [
+        (&[0xa5], "watsql: damaged log at 0\n"),
+        (&[0xa5, 0, 0, 0, 0, 0], "watsql: damaged log at 0\n"),
+        (
+            &[0xa5, 0, 0x1e, 0x84, 0x81, 0],
+            "watsql: damaged log at 0\n",
+        ),
+        (&[0xa5, 0, 0, 0, 1, 0xaa], "watsql: damaged log at 0\n"),
+        (&[0xa5, 0, 0, 0, 1, 0xaa, 0], "watsql: damaged log at 0\n"),
+        (&second_gate, "watsql: damaged log at 25\n"),
+    ];
+    for (log, text) in logs {
+        let (mut finish, wrote) = call(rt.alloc(), "run a.sql", &over(log, ONE_ROW.as_bytes()))?;
+        assert_eq!(rt; finish.status, 3, "{text}");
+        assert_eq!(rt; wrote.as_slice(), text.as_bytes(), "{text}");
+        let held = log_of(rt.alloc(), &mut finish.disk)?;
+        assert_eq!(rt; held.as_slice(), log, "{text}");
     }
     Ok(())
 }
@@ -231,7 +296,7 @@ fn each_disk_call_may_fail(rt: HostRuntime) -> Result<(), Fail> {
 #[test]
 fn a_script_has_a_longest_length(rt: HostRuntime) -> Result<(), Fail> {
     for (length, status, text) in [
-        (1048576, 0, "connection 1\ncommits 0\n"),
+        (16777216, 0, "connection 1\ncommits 0\n"),
         (16777217, 8, "watsql: script 1 is too long\n"),
     ] {
         let script = vec![in rt.alloc(); b' '; length]?;
