@@ -1,4 +1,6 @@
 use super::*;
+use std::alloc::Global;
+use std::process::Abort;
 use std::test::Fail;
 use wat_lex::MAX_TEXT;
 
@@ -34,5 +36,30 @@ fn statements_between_semicolons(rt: HostRuntime) -> Result<(), Fail> {
             );
         }
     }
+    Ok(())
+}
+
+/// How many statements the bytes hold.
+fn count_of(rt: &(impl Abort + Alloc<A = Global>), bytes: &[u8]) -> Result<usize, Fail> {
+    let text = std::str::from_utf8(bytes)?;
+    assert!(rt; text.len() <= MAX_TEXT);
+    let spans = statements(rt.alloc(), text)?;
+    Ok(spans.len())
+}
+
+#[test]
+fn the_longest_scripts_are_cut(rt: HostRuntime) -> Result<(), Fail> {
+    let spaces = vec![in rt.alloc(); b' '; MAX_TEXT]?;
+    assert_eq!(rt; count_of(&rt, &spaces)?, 0);
+    let mut quote = vec![in rt.alloc(); b'a'; MAX_TEXT]?;
+    assert!(rt; !quote.is_empty());
+    quote[0] = b'\'';
+    assert_eq!(rt; count_of(&rt, &quote)?, 1);
+    let mut words = Vec::new(rt.alloc());
+    for _word in 0..MAX_TEXT / 2 {
+        words.push(b'a')?;
+        words.push(b' ')?;
+    }
+    assert_eq!(rt; count_of(&rt, &words)?, 1);
     Ok(())
 }
