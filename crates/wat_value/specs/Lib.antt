@@ -1,3 +1,5 @@
+pub mod Bounds
 pub mod Encoding
+pub mod Fits
 pub mod Order
 pub mod OrderLaws

@@ -72,3 +72,97 @@ fn values_in_their_order(rt: HostRuntime) -> Result<(), Fail> {
     }
     Ok(())
 }
+
+fn numbers(alloc: Global, numbers: &[i64]) -> Result<Key, NoMemory> {
+    let mut key = Items::new(alloc);
+    for n in numbers {
+        key.push(Value::Int(*n))?;
+    }
+    Ok(key)
+}
+
+#[test]
+fn an_interval_holds_the_keys_between_its_bounds(rt: HostRuntime) -> Result<(), Fail> {
+    let interval = Interval {
+        lower: Bound::Excluding(numbers(rt.alloc(), &[2])?),
+        upper: Bound::Including(numbers(rt.alloc(), &[4, 1])?),
+    };
+    let cases: [(&[i64], bool); 6] = [
+        (&[2, 9], false),
+        (&[3, 0], true),
+        (&[4, 1, 7], true),
+        (&[4, 2], false),
+        (&[4], true),
+        (&[], false),
+    ];
+    for (key, held) in cases {
+        assert_eq!(rt; interval.holds(&numbers(rt.alloc(), key)?), held, "{key:?}");
+    }
+    let all = Interval {
+        lower: Bound::Free,
+        upper: Bound::Free,
+    };
+    assert!(rt; all.holds(&numbers(rt.alloc(), &[])?));
+    Ok(())
+}
+
+fn column(alloc: Global, name: &str, kind: Kind, nullable: bool) -> Result<Column, Fail> {
+    let name = Name::new(alloc, name)?.ok_or("no name")?;
+    Ok(Column {
+        name,
+        kind,
+        nullable,
+    })
+}
+
+#[test]
+fn rows_that_fit_their_table(rt: HostRuntime) -> Result<(), Fail> {
+    let mut columns = Items::new(rt.alloc());
+    columns.push(column(rt.alloc(), "k", Kind::Integer, false)?)?;
+    columns.push(column(rt.alloc(), "s", Kind::Varchar(2), true)?)?;
+    let mut key = Items::new(rt.alloc());
+    key.push(0)?;
+    let name = Name::new(rt.alloc(), "t")?.ok_or("no name")?;
+    let def = TableDef {
+        number: 1,
+        name,
+        columns,
+        key,
+    };
+    let cases: [(i64, &str, bool); 5] = [
+        (-2_147_483_648, "ab", true),
+        (2_147_483_647, "", true),
+        (2_147_483_648, "", false),
+        (-2_147_483_649, "", false),
+        (0, "abc", false),
+    ];
+    for (n, text, fitting) in cases {
+        let mut row = Items::new(rt.alloc());
+        row.push(Value::Int(n))?;
+        assert!(rt; !fits(&def, &row));
+        row.push(Value::Text(Text::of(rt.alloc(), text)?))?;
+        assert_eq!(rt; fits(&def, &row), fitting, "{n} {text}");
+        row.push(Value::Null)?;
+        assert!(rt; !fits(&def, &row));
+    }
+    let mut nulls = Items::new(rt.alloc());
+    nulls.push(Value::Null)?;
+    nulls.push(Value::Null)?;
+    assert!(rt; !fits(&def, &nulls));
+    let mut texts = Items::new(rt.alloc());
+    texts.push(Value::Int(1))?;
+    texts.push(Value::Null)?;
+    assert!(rt; fits(&def, &texts));
+    texts.push(Value::Int(1))?;
+    let joined = Text::joined(rt.alloc(), "it", "'s")?;
+    assert_eq!(rt; joined.as_str(), "it's");
+    let change = Act::OnRow(Change::Insert {
+        table: 1,
+        row: texts,
+    });
+    match change.copy(rt.alloc())? {
+        Act::OnRow(Change::Insert { table: 1, row }) => assert_eq!(rt; row.len(), 3),
+        _ => panic!(rt; "another act"),
+    }
+    Ok(())
+}

@@ -1,4 +1,4 @@
-ghost use Rattle.std.specs.Prelude.{◌≡◌, IfOk};
+ghost use Rattle.std.specs.Prelude.{◌≡◌, ◌++◌, IfOk};
 
 use std::alloc::Global;
 use std::marker::Model;
@@ -24,6 +24,15 @@ impl Text {
         ensures { IfOk result (λ t. t ≡ text.now) }
     {
         let text = String::from_str(alloc, text)?;
+        Ok(Text { text })
+    }
+
+    /// The one text behind the other.
+    pub fn joined(alloc: Global, front: &str, back: &str) -> Result<Self, NoMemory>
+        ensures { IfOk result (λ t. t ≡ front.now ++ back.now) }
+    {
+        let mut text = String::from_str(alloc, front)?;
+        text.push_str(back)?;
         Ok(Text { text })
     }
 

@@ -26,6 +26,13 @@ pub type Rows = Items<Row>;
 /// The values of an index's columns, or of the first few of them.
 pub type Key = Items<Value>;
 
+pub type Keys = Items<Key>;
+
+/// A row, or nothing, for each source of a query, in the order as written.
+pub type Combination = Items<Option<Row>>;
+
+pub type Combinations = Items<Combination>;
+
 impl Copied for Value {
     fn copy(&self, alloc: Global) -> Result<Self, NoMemory> {
         match self {
