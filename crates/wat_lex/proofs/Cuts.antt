@@ -57,7 +57,7 @@ unfolding IsSound
 cut_step at z some (inl e) later = cut_bad at z (sym e) some
 cut_step at z some (inr g) later = cut_good at z (piece z).0 (piece z).1 refl some g later
 
-cut_within : (n at : ℕ) (z : List ℕ) → length z ≤ n → IsCut at z (tokens_from 0 at z)
+pub cut_within : (n at : ℕ) (z : List ℕ) → length z ≤ n → IsCut at z (tokens_from 0 at z)
 unfolding Later
 cut_within n at [] h = nothing at
 cut_within zero at (b ∷ z) h = absurd (omega arith)

@@ -1,5 +1,6 @@
 -- Pieces of a text, one after the other.
-use Rattle.std.proofs.Common.{◌≡◌, ℕ, zero, suc, ◌+◌, ◌-◌, ◌<◌, Bool, true, cond, List, [], ◌∷◌, ◌++◌, length, drop, get_or, refl, sym, ◌∙◌, ap, arith}
+use Rattle.std.proofs.Common.{◌≡◌, ℕ, zero, suc, ◌+◌, ◌-◌, ◌<◌, Bool, true, cond, List, [], ◌∷◌, ◌++◌, length, take, drop, get_or, refl, sym, ◌∙◌, ap, arith}
+use Rattle.std.proofs.lemmas.Grind.{common_steps}
 use Rattle.std.specs.List.{prefix_len}
 use Rattle.wat_lex.specs.Tokens.{Piece, piece, token_at, tokens_from}
 use Rattle.wat_lex.specs.declared.token.Token.{Token}
@@ -26,3 +27,7 @@ tokens_from-step [] at p h e n = absurd (omega arith)
 tokens_from-step (b ∷ z) at p h e n =
     ap (λ (q : Piece). token_at at q.0 q.1 ++ tokens_from (q.1 - 1) (at + 1) z) (sym e)
     ∙ ap (λ (ts : List Token). token_at at p.0 p.1 ++ ts) (rest_is p.1 at b z n)
+
+-- the slice of a text from a place on
+pub all_taken : (text : List ℕ) (at : ℕ) → take (length text - at) (drop at text) ≡ drop at text
+all_taken text at = grind (arith, common_steps)

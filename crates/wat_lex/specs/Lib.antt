@@ -1,2 +1,4 @@
+pub mod Parts
 pub mod Rules
 pub mod Tokens
+pub mod Values

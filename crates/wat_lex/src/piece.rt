@@ -12,7 +12,8 @@ use wat_word::{MAX_WORD, is_word_byte};
 /// A kind of token, or None for blanks and for a comment; and a length in bytes.
 pub type Piece = (Option<TokenKind>, usize);
 
-const NUMBER_LIMIT: u128 = 9_223_372_036_854_775_808;
+/// What the value of a number stays below.
+pub const NUMBER_LIMIT: u128 = 9_223_372_036_854_775_808;
 
 fn is_blank(b: u8) -> bool
     ensures { result ≡ spec.is_blank b }
@@ -55,8 +56,8 @@ fn byte_at(text: &[u8], at: usize) -> u8
     if at < text.len() { text[at] } else { 0 }
 }
 
-// The number that the digits spell, or the limit where it is above.
-fn value_of(digits: &[u8]) -> u128
+/// The number that the digits spell, or the limit where it is above.
+pub fn value_of(digits: &[u8]) -> u128
     ensures value { result ≡ spec.value_of digits.now }
     ensures limit { result ≤ 9223372036854775808 }
 {

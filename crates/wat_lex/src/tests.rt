@@ -125,3 +125,28 @@ fn a_word_of_129_bytes_is_bad(rt: HostRuntime) -> Result<(), Fail> {
     );
     Ok(())
 }
+
+#[test]
+fn what_tokens_stand_for(rt: HostRuntime) -> Result<(), Fail> {
+    strings_are_read_back();
+    let text = "Ab_9 'it''s é' 0042 9223372036854775807 '''' ''";
+    assert!(rt; text.len() <= MAX_TEXT);
+    let found = tokens(rt.alloc(), text)?;
+    let found = found.as_slice();
+    assert_eq!(rt; found.len(), 6);
+    assert_eq!(rt; lower_case(rt.alloc(), "Ab_9Z")?.as_str(), "ab_9z");
+    assert_eq!(rt; found[0].text(text), "Ab_9");
+    assert_eq!(rt;
+        string_text(rt.alloc(), found[1].text(text))?.as_str(),
+        "it's é"
+    );
+    assert_eq!(rt; number_value(found[2].text(text)), Some(42));
+    assert_eq!(rt;
+        number_value(found[3].text(text)),
+        Some(9_223_372_036_854_775_807)
+    );
+    assert_eq!(rt; number_value("9223372036854775808"), None);
+    assert_eq!(rt; string_text(rt.alloc(), found[4].text(text))?.as_str(), "'");
+    assert_eq!(rt; string_text(rt.alloc(), found[5].text(text))?.as_str(), "");
+    Ok(())
+}

@@ -1,6 +1,8 @@
 ghost use Rattle.std.specs.Prelude.{◌≡◌, ◌<◌, ◌≤◌, ◌+◌, ◌^◌, ◌++◌, length, OnOk, IfOk};
+ghost use Rattle.std.specs.List.{AllByRecursion};
 ghost use Rattle.wat_lex.specs.Rules.{IsCut};
 ghost use Rattle.wat_lex.specs.Tokens as spec;
+ghost use Rattle.wat_lex.specs.Values.{IsSlice};
 
 use crate::piece::piece;
 use std::alloc::Global;
@@ -31,7 +33,8 @@ pub struct Token {
 
 pub type Tokens = Items<Token>;
 
-fn push_token(
+/// Adds the token of a piece, if it is one.
+pub fn push_token(
     found: &mut Tokens,
     kind: Option<TokenKind>,
     at: usize,
@@ -70,6 +73,8 @@ pub fn tokens(alloc: Global, text: &str) -> Result<Tokens, NoMemory>
     ensures tokens { IfOk result (λ ts. ts ≡ spec.tokens_of text.now) }
     // The text is cut into blanks, comments and these tokens, each by its rule.
     ensures cut { IfOk result (λ ts. IsCut 0 text.now ts) }
+    // Each of them is cut between characters.
+    ensures slices { IfOk result (λ ts. AllByRecursion (IsSlice text.now) ts) }
 {
     read_tokens(alloc, text.as_bytes())
 }

@@ -1,13 +1,9 @@
-use Rattle.std.proofs.Common.{◌≡◌, ◌+◌, ◌-◌, ◌<◌, ◌≤◌, ℕ, List, ◌++◌, length, take, drop, refl, sym, ◌∙◌, ap, append_assoc, length-drop, arith}
-use Rattle.std.proofs.lemmas.Grind.{common_steps}
+use Rattle.std.proofs.Common.{◌≡◌, ◌+◌, ◌<◌, ◌≤◌, ℕ, List, ◌++◌, length, drop, refl, sym, ◌∙◌, ap, append_assoc, length-drop, arith}
 use Rattle.std.proofs.lemmas.List.{drop-drop}
 use Rattle.wat_lex.specs.Tokens.{Piece, piece, token_at, tokens_from, tokens_of}
 use Rattle.wat_lex.specs.declared.token.Token.{Token}
-use Rattle.wat_lex.proofs.Pieces.{tokens_from-step}
+use Rattle.wat_lex.proofs.Pieces.{all_taken, tokens_from-step}
 use Rattle.wat_lex.proofs.token.read_tokens.Goals as goal
-
-all_taken : (text : List ℕ) (at : ℕ) → take (length text - at) (drop at text) ≡ drop at text
-all_taken text at = grind (arith, common_steps)
 
 pub pieces-init : goal.pieces-init
 unfolding tokens_of
