@@ -1,0 +1,4 @@
+pub mod Examples
+pub mod Placed
+pub mod Rules
+pub mod Values

@@ -1,0 +1,4 @@
+pub mod Lexeme
+pub mod Parsed
+pub mod Sql
+pub mod Values
