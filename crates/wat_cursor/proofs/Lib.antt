@@ -1,0 +1,4 @@
+pub mod Ahead
+pub mod Chains
+pub mod Lists
+pub mod Turns

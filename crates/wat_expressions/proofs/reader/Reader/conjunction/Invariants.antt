@@ -1,0 +1,8 @@
+use Rattle.std.proofs.Common.{◌≡◌, ◌-◌}
+use Rattle.wat_grammar.specs.Phrase.{read_within}
+use Rattle.wat_syntax.specs.Sql.{sql, conjunction, conjunction_operator, negation}
+use Rattle.wat_cursor.proofs.Chains.{grouped}
+use Rattle.wat_expressions.proofs.reader.Reader.conjunction.Given as goal
+
+abbrev pub invariant-operations : goal.invariant-operations
+invariant-operations g l = grouped l.left l.self.levels conjunction_operator negation (l._turn-end - l._turn) l.cursor ≡ read_within sql l.self.levels conjunction l.fn.cursor

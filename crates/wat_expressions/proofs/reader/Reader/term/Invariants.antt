@@ -1,0 +1,8 @@
+use Rattle.std.proofs.Common.{◌≡◌, ◌-◌}
+use Rattle.wat_grammar.specs.Phrase.{read_within}
+use Rattle.wat_syntax.specs.Sql.{sql, term, term_operator, factor}
+use Rattle.wat_cursor.proofs.Chains.{grouped}
+use Rattle.wat_expressions.proofs.reader.Reader.term.Given as goal
+
+abbrev pub invariant-operations : goal.invariant-operations
+invariant-operations g l = grouped l.left l.self.levels term_operator factor (l._turn-end - l._turn) l.cursor ≡ read_within sql l.self.levels term l.fn.cursor

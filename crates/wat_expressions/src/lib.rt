@@ -1,0 +1,12 @@
+//! Reads expressions.
+#![tactic(auto)]
+
+mod operators;
+mod parts;
+mod reader;
+mod reading;
+
+pub use reading::{column, expression, expressions};
+
+#[cfg(test)]
+mod tests;
