@@ -1,10 +1,11 @@
 -- The statements of a script.
-use Rattle.std.specs.Prelude.{ℕ, Bool, ◌&&◌, if◌then◌else◌, ◌==◌, nat_le, List, [], ◌∷◌, length, slice_index, Option, Some, None}
+use Rattle.std.specs.Prelude.{ℕ, Bool, ◌&&◌, if◌then◌else◌, ◌==◌, List, [], ◌∷◌, length, slice_index, Option, Some, None}
 use Rattle.std.specs.List.{flat_map}
 use denote.Enum.Bare.{sameb}
 use Rattle.wat_lex.specs.contracts.token.TokenKind.{the_type}
 use Rattle.wat_lex.specs.declared.token.TokenKind.TheVariants.{Symbol}
 use Rattle.wat_lex.specs.declared.token.Token.{Token}
+use Rattle.wat_lex.specs.Parts.{next_from}
 use Rattle.wat_lex.specs.Tokens.{tokens_of}
 use Rattle.wat_parse.specs.declared.script.Span.{Span}
 
@@ -35,11 +36,6 @@ span_of (t ∷ ts) = record { from = t.from; to = (last_of t ts).to } ∷ []
 -- the spans of the groups that are not empty
 unfoldable pub statements_of : List ℕ → List Span
 statements_of text = flat_map span_of (groups text (tokens_of text))
-
--- where the first token from a place on begins, or the end where there is none
-abbrev pub next_from : ℕ → ℕ → List Token → ℕ
-next_from at end [] = end
-next_from at end (t ∷ ts) = if nat_le at t.from then t.from else next_from at end ts
 
 -- Where a group that is cut short goes wrong: at the `;` behind it, or at the end of the text.
 abbrev pub place_behind : List ℕ → Span → ℕ
