@@ -1,0 +1,9 @@
+mod Derives
+mod Fits
+mod Levels
+mod Lifts
+mod Parts
+mod Pieces
+mod Respelled
+mod Tokens
+mod Whole
