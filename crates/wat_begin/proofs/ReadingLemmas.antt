@@ -8,7 +8,7 @@ use Rattle.wat_io.specs.Scripts.{Texts}
 use Rattle.wat_begin.specs.Readings.{Reading, Holds, Missing, Failing, MayRead, AreReadings, script_of, scripts_of, script_limit}
 use Rattle.wat_begin.specs.Faults.{◌>>=◌, UnlessMemory}
 use Rattle.wat_begin.specs.declared.fault.Fault.{Fault}
-use Rattle.wat_begin.specs.declared.fault.Fault.TheVariants.{Usage, CannotRead, TooLong, NotText, NoDatabase, Damaged, DiskFault, Memory}
+use Rattle.wat_begin.specs.declared.fault.Fault.TheVariants.{Usage, CannotRead, TooLong, NotText, NoDatabase, Exists, Damaged, DiskFault, Memory}
 
 found_reading : (texts : Texts) (rose : Type 0) (name : List ℕ) (found : Option (List ℕ)) → texts name ≡ found → (r : Reading) × MayRead (Some texts) rose name r
 found_reading texts rose name None e = (Missing, e)
@@ -119,6 +119,7 @@ UnlessMemory-map A B (CannotRead i) P Q f h = f h
 UnlessMemory-map A B (TooLong i) P Q f h = f h
 UnlessMemory-map A B (NotText i at) P Q f h = f h
 UnlessMemory-map A B NoDatabase P Q f h = f h
+UnlessMemory-map A B Exists P Q f h = f h
 UnlessMemory-map A B (Damaged at) P Q f h = f h
 UnlessMemory-map A B DiskFault P Q f h = f h
 

@@ -13,36 +13,6 @@ fn words_of(alloc: Global, line: &str) -> Result<Vec<String>, AllocError> {
 }
 
 #[test]
-fn words_are_run_and_a_script_or_no_command(rt: HostRuntime) -> Result<(), Fail> {
-    let lines = [
-        ("run a.sql", Some("a.sql")),
-        ("run run", Some("run")),
-        ("run ", Some("")),
-        ("run", None),
-        ("run a.sql b.sql", None),
-        ("run -a.sql", None),
-        ("run -", None),
-        ("-run a.sql", None),
-        ("Run a.sql", None),
-        ("runs a.sql", None),
-        ("play a.sql", None),
-        ("", None),
-    ];
-    for (line, script) in lines {
-        let words = words_of(rt.alloc(), line)?;
-        match (read_words(&words), script) {
-            (Some((Command::Run, [name])), Some(script)) => {
-                assert_eq!(rt; name.as_str(), script, "{line}")
-            }
-            (None, None) => {}
-            _ => assert!(rt; false, "{line}"),
-        }
-    }
-    assert!(rt; read_words(&[]).is_none());
-    Ok(())
-}
-
-#[test]
 fn scripts_are_read_in_order_up_to_the_first_fault(rt: HostRuntime) -> Result<(), Fail> {
     let alloc = rt.alloc();
     let readings = [
@@ -51,11 +21,17 @@ fn scripts_are_read_in_order_up_to_the_first_fault(rt: HostRuntime) -> Result<()
         ("bytes none", Some(Fault::NotText { script: 1, at: 2 })),
         ("none", Some(Fault::CannotRead { script: 1 })),
         ("a a", Some(Fault::CannotRead { script: 2 })),
+        ("a cut", Some(Fault::NotText { script: 2, at: 1 })),
+        ("surrogate", Some(Fault::NotText { script: 1, at: 0 })),
+        ("overlong", Some(Fault::NotText { script: 1, at: 2 })),
     ];
-    let names = words_of(alloc, "a bytes")?;
+    let names = words_of(alloc, "a bytes cut surrogate overlong")?;
     let a = Vec::from_slice(alloc, "é;".as_bytes())?;
     let bytes = Vec::from_slice(alloc, b"SE\xff")?;
-    let texts = vec![in alloc; a, bytes]?;
+    let cut = Vec::from_slice(alloc, b"a\xe2\x82")?;
+    let surrogate = Vec::from_slice(alloc, b"\xed\xa0\x80")?;
+    let overlong = Vec::from_slice(alloc, b"\xc3\xa9\xc0\x80")?;
+    let texts = vec![in alloc; a, bytes, cut, surrogate, overlong]?;
     assert_eq!(rt; texts.len(), names.len());
     let mut scripts = MemoryScripts::new(names, texts, Vec::from_slice(alloc, &[7])?);
     for (line, fault) in readings {

@@ -1,7 +1,7 @@
 -- What the words call for.
 use Rattle.std.proofs.Common.{◌≡◌, ◌⊎◌, inl, inr, ⊎_elim, ℕ, ◌+◌, ◌≤◌, ◌<◌, ◌++◌, Bool, true, false, List, [], ◌∷◌, length, Option, None, Some, Result, Ok, Err, ℤ, refl, sym, ◌∙◌, ap, subst, arith, if◌then◌else◌}
 use Rattle.std.proofs.lemmas.Bool.{cases_order, lt-ltb, le-ltb}
-use Rattle.std.specs.Prelude.{nat_lt, All, IsSome}
+use Rattle.std.specs.Prelude.{⊤, nat_lt, All}
 use Rattle.std.specs.Option.{ok_or}
 use Rattle.std.specs.Str.Lossy.{utf8_valid_len}
 use Rattle.wat_io.specs.Scripts.{Texts}
@@ -9,23 +9,38 @@ use Rattle.wat_rowlog.specs.Logged.{Restarts}
 use Rattle.wat_rowlog.specs.Opening.{MayOpen}
 use Rattle.wat_rowlog.specs.declared.opening.OpenWhy.{OpenWhy}
 use Rattle.wat_rowlog.specs.declared.opening.OpenWhy.TheVariants as why
-use Rattle.wat_begin.specs.Words.{command_of, names_of}
+use Rattle.wat_words.specs.Commands.{alone, command_of, names_of, plain_of, run_of}
+use Rattle.wat_words.specs.declared.Command.{Command}
+use Rattle.wat_words.specs.declared.Command.TheVariants.{Init, Run}
+use Rattle.wat_init.specs.declared.InitRefusal.{InitRefusal}
+use Rattle.wat_init.specs.declared.InitRefusal.TheVariants as refusal
 use Rattle.wat_begin.specs.Faults.{◌>>=◌, UnlessMemory}
 use Rattle.wat_begin.specs.Readings.{Reading, Holds, Missing, Failing, AreReadings, script_of, scripts_of, script_limit}
-use Rattle.wat_begin.specs.declared.words.Command.{Command}
-use Rattle.wat_begin.specs.declared.words.Command.TheVariants.{Run}
 use Rattle.wat_begin.specs.declared.fault.Fault.{Fault}
-use Rattle.wat_begin.specs.declared.fault.Fault.TheVariants.{Usage, CannotRead, TooLong, NotText, NoDatabase, Damaged, DiskFault, Memory}
+use Rattle.wat_begin.specs.declared.fault.Fault.TheVariants.{Usage, CannotRead, TooLong, NotText, NoDatabase, Exists, Damaged, DiskFault, Memory}
 use Rattle.wat_begin.proofs.ReadingLemmas.{is_text}
-use Rattle.watsql.specs.Called.{called_for, opened}
+use Rattle.watsql.specs.Called.{Begun, Making, Playing, called_by, called_for, made, opened}
 use Rattle.watsql.specs.Ending.{HasText, IsOneText}
+
+is_run : (dashed init run : Bool) (x y : Option Command) → (if dashed then None else if init then x else if run then y else None) ≡ Some Run → (x ≡ Some Run → ⊥) → y ≡ Some Run
+is_run true init run x y is other = cc
+is_run false true run x y is other = absurd (other is)
+is_run false false true x y is other = is
+is_run false false false x y is other = cc
+
+no_init : (rest : List (List ℕ)) → alone Init rest ≡ Some Run → ⊥
+no_init [] is = cc
+no_init (word ∷ rest) is = cc
+
+one_word : (rest : List (List ℕ)) → run_of rest ≡ Some Run → (name : List ℕ) × (rest ≡ name ∷ [])
+one_word [] is = cc
+one_word (name ∷ []) is = (name, refl)
+one_word (name ∷ other ∷ rest) is = cc
 
 -- run names one script
 pub one_name : (words : List (List ℕ)) → command_of words ≡ Some Run → (name : List ℕ) × (names_of Run words ≡ name ∷ [])
 one_name [] is = cc
-one_name (word ∷ []) is = cc
-one_name (word ∷ name ∷ []) is = (name, refl)
-one_name (word ∷ name ∷ other ∷ words) is = cc
+one_name (word ∷ rest) is = one_word rest (is_run _ _ _ (alone Init rest) (run_of rest) is (no_init rest))
 
 text_or : (answer : Result (List ℕ) Fault) (texts : List (List ℕ)) → (answer >>= λ text. Ok (text ∷ [])) ≡ Ok texts → (text : List ℕ) × (answer ≡ Ok text) × (texts ≡ text ∷ [])
 text_or (Ok text) texts is = (text, refl, cc)
@@ -104,22 +119,24 @@ no_usage_opened (Err (why.Damaged at)) is = cc
 no_usage_opened (Err why.DiskFault) is = cc
 no_usage_opened (Err why.Memory) is = cc
 
-abbrev Begun : Type 0
-Begun = List (List ℕ) × List (ℤ × ℤ)
+no_usage_made : (making : Result ⊤ InitRefusal) → (made making >>= λ done. Ok Making) ≡ Err Usage → ⊥
+no_usage_made (Ok done) is = cc
+no_usage_made (Err refusal.Exists) is = cc
+no_usage_made (Err refusal.DiskFault) is = cc
+no_usage_made (Err refusal.Memory) is = cc
 
-abbrev begun_of : List Reading → Result (List (ℤ × ℤ)) OpenWhy → Result Begun Fault
-begun_of readings opening = scripts_of 1 readings >>= λ texts. opened opening >>= λ rows. Ok (texts, rows)
-
-no_usage_begun : (readings : List Reading) (opening : Result (List (ℤ × ℤ)) OpenWhy) → begun_of readings opening ≡ Err Usage → ⊥
+no_usage_begun : (readings : List Reading) (opening : Result (List (ℤ × ℤ)) OpenWhy) →
+    (scripts_of 1 readings >>= λ texts. opened opening >>= λ rows. Ok (Playing texts rows)) ≡ Err Usage → ⊥
 no_usage_begun readings opening is = ⊎_elim (no_usage_scripts 1 readings)
-    (λ first. ⊎_elim (no_usage_opened opening) (λ rest. let e = rest.1 in cc) (bind_err {A = List (ℤ × ℤ)} {B = Begun} (opened opening) (λ rows. Ok (first.0, rows)) Usage first.1))
-    (bind_err {A = List (List ℕ)} {B = Begun} (scripts_of 1 readings) (λ texts. opened opening >>= λ rows. Ok (texts, rows)) Usage is)
+    (λ first. ⊎_elim (no_usage_opened opening) (λ rest. let e = rest.1 in cc) (bind_err {A = List (ℤ × ℤ)} {B = Begun} (opened opening) (λ rows. Ok (Playing first.0 rows)) Usage first.1))
+    (bind_err {A = List (List ℕ)} {B = Begun} (scripts_of 1 readings) (λ texts. opened opening >>= λ rows. Ok (Playing texts rows)) Usage is)
 
-no_command : (command : Option Command) (readings : List Reading) (opening : Result (List (ℤ × ℤ)) OpenWhy) →
-    (ok_or command Usage >>= λ command. begun_of readings opening) ≡ Err Usage → command ≡ None
-no_command None readings opening is = refl
-no_command (Some command) readings opening is = absurd (no_usage_begun readings opening is)
+no_command : (command : Option Command) (making : Result ⊤ InitRefusal) (readings : List Reading) (opening : Result (List (ℤ × ℤ)) OpenWhy) →
+    (ok_or command Usage >>= λ command. called_by command making readings opening) ≡ Err Usage → command ≡ None
+no_command None making readings opening is = refl
+no_command (Some Init) making readings opening is = absurd (no_usage_made making is)
+no_command (Some Run) making readings opening is = absurd (no_usage_begun readings opening is)
 
 -- Usage is called for by words that are no command alone.
-pub usage_only : (words : List (List ℕ)) (readings : List Reading) (opening : Result (List (ℤ × ℤ)) OpenWhy) → called_for words readings opening ≡ Err Usage → command_of words ≡ None
-usage_only words readings opening is = no_command (command_of words) readings opening is
+pub usage_only : (words : List (List ℕ)) (making : Result ⊤ InitRefusal) (readings : List Reading) (opening : Result (List (ℤ × ℤ)) OpenWhy) → called_for words making readings opening ≡ Err Usage → command_of words ≡ None
+usage_only words making readings opening is = no_command (command_of words) making readings opening is

@@ -1,9 +1,11 @@
 -- A disk that no call has changed.
-use Rattle.std.proofs.Common.{Result, Ok, Err, refl, ◌∙◌}
-use Rattle.std.specs.Prelude.{OnErr}
-use Rattle.wat_disk.specs.Disk.{Told}
-use Rattle.wat_disk.proofs.Stops.{none_same, both_same}
-use Rattle.watsql.specs.Ending.{IsUntouched}
+use Rattle.std.proofs.Common.{refl, ◌∙◌}
+use Rattle.wat_disk.specs.Bytes.{Torn}
+use Rattle.wat_disk.specs.Disk.{Told, InFile}
+use Rattle.wat_disk.specs.Writes.{torn_same}
+use Rattle.wat_disk.proofs.Stops.{stays, none_same, both_same}
+use Rattle.watsql.specs.Called.{log_file}
+use Rattle.watsql.specs.Ending.{IsUntouched, ChangesFirstByte}
 
 -- before the first call
 pub untouched_here : (told : Told) → IsUntouched told told
@@ -13,6 +15,9 @@ untouched_here told = record { content = λ file. refl; stops = none_same told }
 pub untouched_on : (before mid now : Told) → IsUntouched before mid → IsUntouched mid now → IsUntouched before now
 untouched_on before mid now first then = record { content = λ file. then.content file ∙ first.content file; stops = both_same before mid now first.stops then.stops }
 
-pub untouched_err : {A E : Type 0} (before mid now : Told) (result : Result A E) → IsUntouched before mid → OnErr result (IsUntouched mid now) → OnErr result (IsUntouched before now)
-untouched_err before mid now (Ok x) first then = tt
-untouched_err before mid now (Err e) first then = untouched_on before mid now first then
+-- before the first call of init
+pub first_byte_here : (told : Told) → ChangesFirstByte told told
+first_byte_here told = record {
+  others = λ other not_it. refl;
+  stops = stays told (InFile log_file (Torn 0 1)) (λ image left. record { changed = torn_same 0 1 (image log_file); others = λ other not_it. refl });
+}

@@ -1,9 +1,10 @@
 -- How a call ends: what the outside answered, and what the call leaves.
-use Rattle.std.specs.Prelude.{◌≡◌, ◌≤◌, ℕ, length, List, [], ◌∷◌, Option, None, Some, Result, Ok, Err, IsSome, IsOkAnd, ℤ, All}
+use Rattle.std.specs.Prelude.{⊤, ◌≡◌, ◌≢◌, ◌≤◌, ℕ, length, List, [], ◌∷◌, Option, None, Some, Result, Ok, Err, ℤ, All}
 use Rattle.std.specs.Str.Lossy.{utf8_valid_len}
 use Rattle.wat_io.specs.Faults as io
 use Rattle.wat_io.specs.Scripts.{Texts}
-use Rattle.wat_disk.specs.Disk.{Told, SameFiles, SameOthers, EachStop, IsSynced, Rose}
+use Rattle.wat_disk.specs.Bytes.{Torn}
+use Rattle.wat_disk.specs.Disk.{Told, SameFiles, SameOthers, EachStop, EachLeft, InFile, IsSynced, Rose}
 use Rattle.wat_conn.specs.declared.session.Entry.{Entry}
 use Rattle.wat_conn.specs.declared.session.Session.{Session}
 use Rattle.wat_conn.specs.declared.answer.Reason.TheVariants.{DiskFault}
@@ -12,11 +13,18 @@ use Rattle.wat_rowlog.specs.Logged.{Restarts}
 use Rattle.wat_rowlog.specs.Opening.{MayOpen}
 use Rattle.wat_rowlog.specs.declared.opening.OpenWhy.{OpenWhy}
 use Rattle.wat_play.specs.Kept.{answered_of, cut_of, AreMoments, KeepsCommits}
-use Rattle.wat_begin.specs.Words.{command_of}
+use Rattle.wat_words.specs.Commands.{command_of}
+use Rattle.wat_words.specs.declared.Command.{Command}
+use Rattle.wat_words.specs.declared.Command.TheVariants.{Init, Run}
+use Rattle.wat_init.specs.Making.{MayMake}
+use Rattle.wat_init.specs.declared.InitRefusal.{InitRefusal}
 use Rattle.wat_begin.specs.Faults.{UnlessMemory}
 use Rattle.wat_begin.specs.Readings.{Reading, AreReadings, script_limit}
 use Rattle.wat_begin.specs.declared.fault.Fault.{Fault}
-use Rattle.watsql.specs.Called.{log_file, called_for, names_called}
+use Rattle.wat_begin.specs.declared.fault.Fault.TheVariants as why
+use Rattle.watsql.specs.Called.{log_file, Begun, Making, Playing, called_for, names_called}
+use Rattle.watsql.specs.declared.perform.Done.{Done}
+use Rattle.watsql.specs.declared.perform.Done.TheVariants.{Made, Played}
 
 -- The outside: what it holds, as far as it tells, and its counts of faults, when the call began and when it ended.
 pub record Outside : Type 1 where
@@ -48,23 +56,38 @@ pub record IsSession (tells : Type 0) (before now : Told) (texts : List (List �
   pub stops : tells → IsSynced before log_file → KeepsCommits before now log_file rows (history_of rows text (answered_of entries)) session.moments
       (cut_of session.stop rows text (answered_of entries))
 
--- What follows on what the words call for: its fault, or a session.
-abbrev pub Follows : Outside → Result (List (List ℕ) × List (ℤ × ℤ)) Fault → Result Session Fault → Type 0
+-- The log was made: it is one closed gate, and whatever a stop then leaves restarts without rows.
+pub record IsMade (tells : Type 0) (now : Told) : Type 0 where
+  pub content : tells → now.content log_file ≡ 0 ∷ []
+  pub kept : tells → EachLeft now now.moment now.moment (λ image. Restarts (image log_file) [])
+
+-- a session was played, and it has P
+abbrev pub IsPlayed : Result Done Fault → (Session → Type 0) → Type 0
+IsPlayed (Ok (Played session)) P = P session
+IsPlayed (Ok Made) P = ⊥
+IsPlayed (Err fault) P = ⊥
+
+-- What follows on what the words call for: its fault, a database, or a session.
+abbrev pub Follows : Outside → Result Begun Fault → Result Done Fault → Type 0
 Follows outside (Err fault) ended = ended ≡ Err fault
-Follows outside (Ok begun) ended = IsOkAnd ended (IsSession outside.tells outside.disk_before outside.disk begun.0 begun.1)
+Follows outside (Ok Making) ended = (ended ≡ Ok Made) × IsMade outside.tells outside.disk
+Follows outside (Ok (Playing texts rows)) ended = IsPlayed ended (IsSession outside.tells outside.disk_before outside.disk texts rows)
 
 -- The outside answered in some way that it may, and the call ended as the words then call for, or by want of memory.
-pub record Ends (outside : Outside) (words : List (List ℕ)) (ended : Result Session Fault) : Type 0 where
+pub record Ends (outside : Outside) (words : List (List ℕ)) (ended : Result Done Fault) : Type 0 where
+  pub making : Result ⊤ InitRefusal
   pub readings : List Reading
   pub opening : Result (List (ℤ × ℤ)) OpenWhy
+  pub may_make : MayMake outside.tells (outside.disk_before.content log_file) (Rose outside.disk_before outside.disk) making
   pub may_read : AreReadings outside.texts (io.Rose outside.script_faults_before outside.script_faults) (names_called words) readings
   pub may_open : MayOpen outside.tells (outside.disk_before.content log_file) (Rose outside.disk_before outside.disk) opening
-  pub is : UnlessMemory ended (Follows outside (called_for words readings opening) ended)
+  pub is : UnlessMemory ended (Follows outside (called_for words making readings opening) ended)
 
--- how the call ended: with a fault or with the session
-abbrev pub ended : Option Fault → Session → Result Session Fault
-ended None session = Ok session
-ended (Some fault) session = Err fault
+-- how the call ended: with a fault, with the database that `init` made, or with the session
+abbrev pub ended : Result Command Fault → Session → Result Done Fault
+ended (Err fault) session = Err fault
+ended (Ok Init) session = Ok Made
+ended (Ok Run) session = Ok (Played session)
 
 -- Nothing was asked.
 pub record IsNoSession (session : Session) : Type 0 where
@@ -77,6 +100,15 @@ pub record IsNoSession (session : Session) : Type 0 where
 pub record IsUntouched (before now : Told) : Type 0 where
   pub content : SameFiles before.content now.content
   pub stops : EachStop before now SameFiles
+
+-- A fault leaves all files untouched, but for one of the disk that `init` meets.
+abbrev pub LeavesUntouched : List (List ℕ) → Told → Told → Fault → Type 0
+LeavesUntouched words before now met = (command_of words ≡ Some Init → met ≢ why.DiskFault) → IsUntouched before now
+
+-- Nothing else was changed than the first byte of the log, and a stop at any moment leaves nothing else changed.
+pub record ChangesFirstByte (before now : Told) : Type 0 where
+  pub others : SameOthers log_file before.content now.content
+  pub stops : EachStop before now (InFile log_file (Torn 0 1))
 
 -- one text, within the limit
 pub record IsOneText (texts : List (List ℕ)) : Type 0 where
@@ -91,14 +123,19 @@ pub record HasText (texts : Texts) (name : List ℕ) : Type 0 where
   pub short : length text ≤ script_limit
   pub is_text : utf8_valid_len text ≡ length text
 
--- The words are a command, its scripts are texts, the log is well formed, and neither scripts nor disk failed.
+-- The log is as the command needs it: empty for `init`, and one that restart reads for `run`.
+abbrev pub Serves : Command → List ℕ → Type 0
+Serves Init log = log ≡ []
+Serves Run log = (rows : List (ℤ × ℤ)) × Restarts log rows
+
+-- The words are a command, its scripts are texts, the log is as it needs it, and neither scripts nor disk failed.
 pub record IsWell (outside : Outside) (words : List (List ℕ)) : Type 0 where
-  pub command : IsSome (command_of words)
+  pub command : Command
+  pub is : command_of words ≡ Some command
   pub texts : Texts
   pub told : outside.texts ≡ Some texts
   pub scripts : All (HasText texts) (names_called words)
   pub tells : outside.tells
-  pub rows : List (ℤ × ℤ)
-  pub log : Restarts (outside.disk_before.content log_file) rows
+  pub log : Serves command (outside.disk_before.content log_file)
   pub script_faults : ¬ io.Rose outside.script_faults_before outside.script_faults
   pub disk_faults : ¬ Rose outside.disk_before outside.disk

@@ -1,5 +1,5 @@
 -- What a call writes, and its status.
-use Rattle.std.specs.Prelude.{◌≡◌, ℕ, Bool, true, false, List, ◌++◌, codes, decimal, Option, None, Some, Result, Ok, Err}
+use Rattle.std.specs.Prelude.{◌≡◌, ℕ, Bool, true, false, List, [], ◌++◌, codes, decimal, Option, None, Some, Result, Ok, Err}
 use Rattle.wat_io.specs.Faults.{Rose}
 use Rattle.wat_io.specs.Sink.{Sends}
 use Rattle.wat_conn.specs.declared.session.Session.{Session}
@@ -7,7 +7,9 @@ use Rattle.wat_conn.specs.declared.answer.Reason.{Reason}
 use Rattle.wat_conn.specs.declared.answer.Reason.TheVariants as reason
 use Rattle.wat_print.specs.Printed.{printed}
 use Rattle.wat_begin.specs.declared.fault.Fault.{Fault}
-use Rattle.wat_begin.specs.declared.fault.Fault.TheVariants.{Usage, CannotRead, TooLong, NotText, NoDatabase, Damaged, DiskFault, Memory}
+use Rattle.wat_begin.specs.declared.fault.Fault.TheVariants.{Usage, CannotRead, TooLong, NotText, NoDatabase, Exists, Damaged, DiskFault, Memory}
+use Rattle.watsql.specs.declared.perform.Done.{Done}
+use Rattle.watsql.specs.declared.perform.Done.TheVariants.{Made, Played}
 
 abbrev pub fault_text : Fault → List ℕ
 fault_text Usage = codes "watsql: usage\n"
@@ -15,6 +17,7 @@ fault_text (CannotRead i) = codes "watsql: cannot read script " ++ decimal i ++ 
 fault_text (TooLong i) = codes "watsql: script " ++ decimal i ++ codes " is too long\n"
 fault_text (NotText i at) = codes "watsql: script " ++ decimal i ++ codes " is not text at " ++ decimal at ++ codes "\n"
 fault_text NoDatabase = codes "watsql: no database\n"
+fault_text Exists = codes "watsql: a database is here\n"
 fault_text (Damaged at) = codes "watsql: damaged log at " ++ decimal at ++ codes "\n"
 fault_text DiskFault = codes "watsql: disk fault\n"
 fault_text Memory = codes "watsql: want of memory\n"
@@ -25,6 +28,7 @@ fault_status (CannotRead i) = 2
 fault_status (TooLong i) = 8
 fault_status (NotText i at) = 8
 fault_status NoDatabase = 3
+fault_status Exists = 3
 fault_status (Damaged at) = 3
 fault_status DiskFault = 4
 fault_status Memory = 7
@@ -33,11 +37,12 @@ abbrev pub reason_status : Reason → ℕ
 reason_status reason.DiskFault = 4
 reason_status reason.Memory = 7
 
--- what is written: want of memory where printing the session finds none
-abbrev pub text_of : Result Session Fault → Bool → List ℕ
+-- what is written: nothing of a database that was made, and want of memory where printing the session finds none
+abbrev pub text_of : Result Done Fault → Bool → List ℕ
 text_of (Err fault) found = fault_text fault
-text_of (Ok session) true = printed session
-text_of (Ok session) false = fault_text Memory
+text_of (Ok Made) found = []
+text_of (Ok (Played session)) true = printed session
+text_of (Ok (Played session)) false = fault_text Memory
 
 -- the status of a stop, of printing that found no memory, of a text that went out in part, or 0
 abbrev pub session_status : Option Reason → Bool → Bool → ℕ
@@ -46,12 +51,13 @@ session_status None false whole = 7
 session_status None true false = 5
 session_status None true true = 0
 
-abbrev pub status_of : Result Session Fault → Bool → Bool → ℕ
+abbrev pub status_of : Result Done Fault → Bool → Bool → ℕ
 status_of (Err fault) found whole = fault_status fault
-status_of (Ok session) found whole = session_status session.stop found whole
+status_of (Ok Made) found whole = 0
+status_of (Ok (Played session)) found whole = session_status session.stop found whole
 
 -- The text went out, or where the sink failed a proper prefix of it, and the status is that of the end.
-pub record Reports (taken taken_now : Option (List ℕ)) (faults faults_now : ℕ) (ended : Result Session Fault) (status : ℕ) : Type 0 where
+pub record Reports (taken taken_now : Option (List ℕ)) (faults faults_now : ℕ) (ended : Result Done Fault) (status : ℕ) : Type 0 where
   -- printing found memory
   pub found : Bool
   -- the text went out whole

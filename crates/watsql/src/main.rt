@@ -1,4 +1,4 @@
-//! watsql: runs a script over the table `t` and its log.
+//! watsql: makes a database, and runs a script over its table `t` and its log.
 #![tactic(auto)]
 
 mod perform;

@@ -1,20 +1,48 @@
-ghost use Rattle.std.specs.Prelude.{◌≡◌, ◌≤◌, List, ℤ, None, map, string_bytes, Result, IfOk, OnErr, IsOkUnless};
-ghost use Rattle.wat_disk.specs.Disk.{SameFiles, EachStop, Rose, HasCause};
+ghost use Rattle.std.specs.Prelude.{⊤, ◌≡◌, ◌≢◌, ◌≤◌, ◌⊎◌, List, ℤ, None, Some, Err, map, string_bytes, Result, IfOk, IfErr, OnOk, OnErr, IsOkUnless};
+ghost use Rattle.wat_disk.specs.Disk.{Rose};
 ghost use Rattle.wat_gate.specs.GateLog.{file_of};
 ghost use Rattle.wat_rowlog.specs.Opening.{MayOpen};
-ghost use Rattle.wat_rowlog.specs.Opened.{IsOpened, answer_of};
-ghost use Rattle.wat_begin.specs.Words.{command_of};
-ghost use Rattle.watsql.specs.Ending.{Ends, IsOneText, IsSession, IsUntouched};
-ghost use Rattle.watsql.specs.Called.{opened, rows_of};
+ghost use Rattle.wat_rowlog.specs.Opened.{IsOpened};
+ghost use Rattle.wat_words.specs.Commands.{command_of};
+ghost use Rattle.wat_init.specs.Making.{MayMake};
+ghost use Rattle.watsql.specs.Ending.{ChangesFirstByte, Ends, IsMade, IsOneText, IsSession, IsUntouched, LeavesUntouched};
+ghost use Rattle.watsql.specs.Called.{made, opened, rows_of};
 
 use std::alloc::Global;
-use wat_begin::{Command, Fault, read_scripts, read_words};
+use wat_begin::{Fault, read_scripts};
 use wat_conn::{ScriptList, Session};
 use wat_disk::Disk;
+use wat_init::{InitRefusal, init};
 use wat_io::Scripts;
 use wat_list::{Reserved, item};
 use wat_play::play;
 use wat_rowlog::{LOG, OpenWhy, Opened, open};
+use wat_words::{Command, read_words, script_names};
+
+/// What a command that was done leaves.
+#[derive(Drop)]
+pub enum Done {
+    /// A database was made.
+    Made,
+    /// A session was played.
+    Played(Session),
+}
+
+/// Makes a database.
+fn make_database<D: Disk>(disk: &mut D) -> Result<(), Fault>
+    ensures making { (making : Result ⊤ InitRefusal) × MayMake D.tells_content ((D.told disk.old).content LOG.0) (Rose (D.told disk.old) (D.told disk.new)) making
+        × (result ≡ made making) }
+    ensures made { OnOk result (IsMade D.tells_content (D.told disk.new)) }
+    ensures first_byte { ChangesFirstByte (D.told disk.old) (D.told disk.new) }
+    ensures untouched { result ≢ Err Fault.DiskFault → OnErr result (IsUntouched (D.told disk.old) (D.told disk.new)) }
+{
+    match init(disk) {
+        Ok(()) => Ok(()),
+        Err(InitRefusal::Exists) => Err(Fault::Exists),
+        Err(InitRefusal::DiskFault) => Err(Fault::DiskFault),
+        Err(InitRefusal::Memory) => Err(Fault::Memory),
+    }
+}
 
 /// Opens the log.
 fn open_log<D: Disk>(alloc: Global, disk: &mut D) -> Result<Opened, Fault>
@@ -67,13 +95,14 @@ fn play_script<D: Disk>(
     })
 }
 
-/// Does what the words call for.
-pub fn perform<L: Scripts, D: Disk>(
+/// Plays the script that the words of `run` name over the log.
+fn run_script<L: Scripts, D: Disk>(
     alloc: Global,
     words: &[String],
     scripts: &mut L,
     disk: &mut D,
-) -> Result<Session, Fault>
+) -> Result<Done, Fault>
+    requires command { command_of (map string_bytes words.now) ≡ Some Command.Run }
     ensures ends { Ends (record {
       texts = L.texts scripts.old;
       script_faults_before = L.faults scripts.old;
@@ -82,13 +111,9 @@ pub fn perform<L: Scripts, D: Disk>(
       disk_before = D.told disk.old;
       disk = D.told disk.new;
     }) (map string_bytes words.now) result }
-    ensures usage { command_of (map string_bytes words.now) ≡ None → result ≡ Err Fault.Usage }
     ensures untouched { OnErr result (IsUntouched (D.told disk.old) (D.told disk.new)) }
 {
-    let Some((Command::Run, names)) = read_words(words) else {
-        return Err(Fault::Usage);
-    };
-    let texts = match read_scripts(alloc, names, scripts) {
+    let texts = match read_scripts(alloc, script_names(Command::Run, words), scripts) {
         Ok(texts) => texts,
         Err(fault) => return Err(fault),
     };
@@ -96,5 +121,38 @@ pub fn perform<L: Scripts, D: Disk>(
         Ok(opened) => opened,
         Err(fault) => return Err(fault),
     };
-    play_script(alloc, texts, opened, disk)
+    match play_script(alloc, texts, opened, disk) {
+        Ok(session) => Ok(Done::Played(session)),
+        Err(fault) => Err(fault),
+    }
+}
+
+/// Does what the words call for.
+pub fn perform<L: Scripts, D: Disk>(
+    alloc: Global,
+    words: &[String],
+    scripts: &mut L,
+    disk: &mut D,
+) -> Result<Done, Fault>
+    ensures ends { Ends (record {
+      texts = L.texts scripts.old;
+      script_faults_before = L.faults scripts.old;
+      script_faults = L.faults scripts.new;
+      tells = D.tells_content;
+      disk_before = D.told disk.old;
+      disk = D.told disk.new;
+    }) (map string_bytes words.now) result }
+    ensures no_command { command_of (map string_bytes words.now) ≡ None → (result ≡ Err Fault.Usage) ⊎ (result ≡ Err Fault.Memory) }
+    ensures untouched { IfErr result (LeavesUntouched (map string_bytes words.now) (D.told disk.old) (D.told disk.new)) }
+    ensures init { command_of (map string_bytes words.now) ≡ Some Command.Init → ChangesFirstByte (D.told disk.old) (D.told disk.new) }
+{
+    match read_words(alloc, words) {
+        Ok(Some(Command::Init)) => match make_database(disk) {
+            Ok(()) => Ok(Done::Made),
+            Err(fault) => Err(fault),
+        },
+        Ok(Some(Command::Run)) => run_script(alloc, words, scripts, disk),
+        Ok(None) => Err(Fault::Usage),
+        Err(_) => Err(Fault::Memory),
+    }
 }

@@ -5,6 +5,7 @@ ghost use Rattle.wat_io.specs.Sink.{AppendsPart};
 ghost use Rattle.watsql.specs.Reporting.{Reports, fault_text, fault_status, session_status};
 ghost use Rattle.wat_begin.specs.declared.fault.Fault.TheVariants.{NotText};
 
+use crate::perform::Done;
 use itoa::Buffer;
 use std::alloc::Global;
 use wat_begin::Fault;
@@ -90,6 +91,7 @@ fn write_fault<K: Sink>(out: &mut K, fault: Fault) -> Result<(), SinkFault>
         ),
         Fault::NotText { script, at } => write_not_text(out, script, at),
         Fault::NoDatabase => write_all(out, b"watsql: no database\n"),
+        Fault::Exists => write_all(out, b"watsql: a database is here\n"),
         Fault::Damaged { at } => write_numbered(out, b"watsql: damaged log at ", at, b"\n"),
         Fault::DiskFault => write_all(out, b"watsql: disk fault\n"),
         Fault::Memory => write_all(out, b"watsql: want of memory\n"),
@@ -103,7 +105,7 @@ fn fault_status(fault: Fault) -> u8
         Fault::Usage => 1,
         Fault::CannotRead { .. } => 2,
         Fault::TooLong { .. } | Fault::NotText { .. } => 8,
-        Fault::NoDatabase | Fault::Damaged { .. } => 3,
+        Fault::NoDatabase | Fault::Exists | Fault::Damaged { .. } => 3,
         Fault::DiskFault => 4,
         Fault::Memory => 7,
     }
@@ -122,7 +124,7 @@ fn session_status(stop: Option<Reason>, found: bool, whole: bool) -> u8
 }
 
 /// Writes the text of how a call ended, and answers its status.
-pub fn report<K: Sink>(alloc: Global, ended: &Result<Session, Fault>, out: &mut K) -> u8
+pub fn report<K: Sink>(alloc: Global, ended: &Result<Done, Fault>, out: &mut K) -> u8
     ensures { Reports (K.taken out.old) (K.taken out.new) (K.faults out.old) (K.faults out.new) ended.now result }
 {
     match ended {
@@ -130,7 +132,8 @@ pub fn report<K: Sink>(alloc: Global, ended: &Result<Session, Fault>, out: &mut 
             let _ = write_fault(out, *fault);
             fault_status(*fault)
         }
-        Ok(session) => {
+        Ok(Done::Made) => 0,
+        Ok(Done::Played(session)) => {
             let mut text = Vec::new(alloc);
             match printed(session, &mut text) {
                 Ok(()) => match write_all(out, text.as_slice()) {

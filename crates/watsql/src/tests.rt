@@ -4,8 +4,10 @@ use std::alloc::{AllocError, Global};
 use std::sync::Wait;
 use std::test::Fail;
 use std::thread::Threads;
+use wat_begin::Fault;
 use wat_disk::{Disk, FileId, MemoryDisk, Pick};
 use wat_io::{FreeGate, MemoryScripts, MemorySink};
+use wat_words::Command;
 
 const ONE_ROW: &str = "INSERT INTO t VALUES (2, 5); SELECT * FROM t; COMMIT;";
 
@@ -26,6 +28,10 @@ const REFUSALS_TEXT: &str =
     "connection 1\n1: error Duplicate (2)\n2: error OutOfRange v\n3: committed 1\n4: unsupported\ncommits 1\n";
 
 const NO_DISK: &str = "watsql: disk fault\n";
+
+const USAGE: &str = "watsql: usage\n";
+
+const HERE: &str = "watsql: a database is here\n";
 
 /// What a call is made over, and the numbers of the calls that fail.
 #[derive(Clone, Copy)]
@@ -92,9 +98,19 @@ fn call(
     line: &str,
     around: &Around,
 ) -> Result<(Finish<MemoryDisk>, Vec<u8>), AllocError> {
+    let disk = disk_of(alloc, around.log, around.disk)?;
+    call_on(alloc, line, around, disk)
+}
+
+/// Makes the call over this disk.
+fn call_on(
+    alloc: Global,
+    line: &str,
+    around: &Around,
+    disk: MemoryDisk,
+) -> Result<(Finish<MemoryDisk>, Vec<u8>), AllocError> {
     let words = words_of(alloc, line)?;
     let mut scripts = scripts_of(alloc, around.script, around.read)?;
-    let disk = disk_of(alloc, around.log, around.disk)?;
     let mut sink = MemorySink::new(alloc, around.room, list_of(alloc, around.write)?)?;
     let finish = run_tool(alloc, &words, &mut scripts, disk, &mut sink);
     let text = Vec::from_slice(alloc, sink.bytes())?;
@@ -113,7 +129,7 @@ fn rows_are_answered_and_logged(rt: HostRuntime) -> Result<(), Fail> {
     for (log, script, text, left) in rows {
         let (mut finish, wrote) = call(rt.alloc(), "run a.sql", &over(log, script.as_bytes()))?;
         assert_eq!(rt; finish.status, 0, "{script}");
-        assert!(rt; finish.fault.is_none(), "{script}");
+        assert!(rt; finish.outcome == Ok(Command::Run), "{script}");
         assert_eq!(rt; wrote.as_slice(), text.as_bytes(), "{script}");
         let held = log_of(rt.alloc(), &mut finish.disk)?;
         assert_eq!(rt; held.as_slice(), left, "{script}");
@@ -122,12 +138,95 @@ fn rows_are_answered_and_logged(rt: HostRuntime) -> Result<(), Fail> {
 }
 
 #[test]
+fn a_database_is_made_once_and_then_run_over(rt: HostRuntime) -> Result<(), Fail> {
+    let alloc = rt.alloc();
+    let new = over(&[], ONE_ROW.as_bytes());
+    // Neither a sink that takes nothing nor scripts that cannot be read keep `init` from its work.
+    let closed = Around {
+        read: Some(0),
+        write: Some(0),
+        ..new
+    };
+    let (made, text) = call(alloc, "init", &closed)?;
+    assert_eq!(rt; made.status, 0);
+    assert!(rt; made.outcome == Ok(Command::Init));
+    assert!(rt; text.is_empty());
+    let (mut again, text) = call_on(alloc, "init", &new, made.disk)?;
+    assert_eq!(rt; again.status, 3);
+    assert!(rt; again.outcome == Err(Fault::Exists));
+    assert_eq!(rt; text.as_slice(), HERE.as_bytes());
+    let held = log_of(alloc, &mut again.disk)?;
+    assert_eq!(rt; held.as_slice(), [0].as_slice());
+    let (ran, text) = call_on(alloc, "run a.sql", &new, again.disk)?;
+    assert_eq!(rt; ran.status, 0);
+    assert_eq!(rt; text.as_slice(), ONE_ROW_TEXT.as_bytes());
+    Ok(())
+}
+
+#[test]
 fn each_status_has_its_cause(rt: HostRuntime) -> Result<(), Fail> {
     let well = over(&[0], ONE_ROW.as_bytes());
+    let new = over(&[], b"");
     let cases = [
-        ("walk", well, 1, "watsql: usage\n"),
-        ("run -a.sql", well, 1, "watsql: usage\n"),
-        ("walk", Around { room: 3, ..well }, 1, "wat"),
+        ("frob", well, 1, USAGE),
+        ("", well, 1, USAGE),
+        ("play 3 a.sql", well, 1, USAGE),
+        ("init --pages 15", new, 1, USAGE),
+        ("run", well, 1, USAGE),
+        ("run a b", well, 1, USAGE),
+        ("run -a.sql", well, 1, USAGE),
+        ("run -- a.sql", well, 1, USAGE),
+        ("--help", well, 1, USAGE),
+        ("help", well, 1, USAGE),
+        ("frob", Around { room: 3, ..well }, 1, "wat"),
+        ("init", well, 3, HERE),
+        ("init", Around { room: 3, ..well }, 3, "wat"),
+        (
+            "init",
+            Around {
+                log: &[0xa5],
+                ..well
+            },
+            3,
+            HERE,
+        ),
+        (
+            "init",
+            Around {
+                log: &ONE_ROW_LOG,
+                ..well
+            },
+            3,
+            HERE,
+        ),
+        (
+            "init",
+            Around {
+                disk: Some(0),
+                ..new
+            },
+            4,
+            NO_DISK,
+        ),
+        (
+            "init",
+            Around {
+                disk: Some(1),
+                ..new
+            },
+            4,
+            NO_DISK,
+        ),
+        (
+            "init",
+            Around {
+                disk: Some(2),
+                ..new
+            },
+            4,
+            NO_DISK,
+        ),
+        ("run ", well, 2, "watsql: cannot read script 1\n"),
         ("run b.sql", well, 2, "watsql: cannot read script 1\n"),
         (
             "run a.sql",
@@ -343,6 +442,19 @@ fn left(
 ) -> Result<MemoryDisk, AllocError> {
     let reached = moment.min(disk.moment());
     disk.after_stop(alloc, reached, pick)
+}
+
+#[test]
+fn a_stop_keeps_a_database_that_was_made(rt: HostRuntime) -> Result<(), Fail> {
+    let alloc = rt.alloc();
+    let (made, _) = call(alloc, "init", &over(&[], b""))?;
+    assert_eq!(rt; made.status, 0);
+    for pick in [Pick::Old, Pick::New, Pick::Torn(0), Pick::Torn(0xa5)] {
+        let stopped = left(alloc, &made.disk, made.disk.moment(), pick)?;
+        let (_, commits) = commits_on(&rt, alloc, stopped)?;
+        assert_eq!(rt; commits, 0, "{pick:?}");
+    }
+    Ok(())
 }
 
 #[test]

@@ -1,10 +1,10 @@
-ghost use Rattle.std.specs.Prelude.{◌≡◌, ◌≢◌, ◌⊎◌, ◌↔◌, None, map, string_bytes, IsSome};
+ghost use Rattle.std.specs.Prelude.{◌≡◌, ◌≢◌, ◌⊎◌, None, Some, Ok, map, string_bytes, IfErr};
 ghost use Rattle.wat_io.specs.Faults.{Rose};
-ghost use Rattle.wat_begin.specs.Words.{command_of};
-ghost use Rattle.watsql.specs.Ending.{Ends, IsNoSession, IsUntouched, IsWell, ended};
+ghost use Rattle.wat_words.specs.Commands.{command_of};
+ghost use Rattle.watsql.specs.Ending.{ChangesFirstByte, Ends, IsNoSession, IsWell, LeavesUntouched, ended};
 ghost use Rattle.watsql.specs.Reporting.{Reports};
 
-use crate::perform::perform;
+use crate::perform::{Done, perform};
 use crate::report::report;
 use std::alloc::Global;
 use std::sync::Wait;
@@ -13,16 +13,17 @@ use wat_begin::Fault;
 use wat_conn::Session;
 use wat_disk::Disk;
 use wat_io::{Gate, Scripts, Sink};
+use wat_words::Command;
 
 /// What a call of the program leaves.
 #[derive(Drop)]
 pub struct Finish<D> {
     /// The status that the program ends with.
     pub status: u8,
-    /// Why no session began; none where one began.
-    pub fault: Option<Fault>,
+    /// The command that was done, or why none was.
+    pub outcome: Result<Command, Fault>,
     pub disk: D,
-    /// The session; one in which nothing was asked where none began.
+    /// The session of `run`; one in which nothing was asked where none began.
     pub session: Session,
 }
 
@@ -42,16 +43,19 @@ pub fn run_tool<L: Scripts, D: Disk, K: Sink>(
       tells = D.tells_content;
       disk_before = D.told disk;
       disk = D.told result.disk;
-    }) (map string_bytes words.now) (ended result.fault result.session) }
-    ensures nothing_asked { IsSome result.fault → IsNoSession result.session }
-    ensures untouched { IsSome result.fault → IsUntouched (D.told disk) (D.told result.disk) }
+    }) (map string_bytes words.now) (ended result.outcome result.session) }
+    ensures nothing_asked { result.outcome ≢ Ok Command.Run → IsNoSession result.session }
+    // A fault leaves all as it was, but for one of the disk in `init`, which at most writes the first byte of the log.
+    ensures untouched { IfErr result.outcome (LeavesUntouched (map string_bytes words.now) (D.told disk) (D.told result.disk)) }
+    ensures init { command_of (map string_bytes words.now) ≡ Some Command.Init → ChangesFirstByte (D.told disk) (D.told result.disk) }
 
     // What is written and the status are those of this end.
     ensures reports { Reports (K.taken out.old) (K.taken out.new) (K.faults out.old) (K.faults out.new)
-        (ended result.fault result.session) result.status }
+        (ended result.outcome result.session) result.status }
 
     // Status 1 stands for words that are no command, and where all is well the status is 0, unless memory was wanted.
-    ensures usage { (result.status ≡ 1) ↔ (command_of (map string_bytes words.now) ≡ None) }
+    ensures usage { result.status ≡ 1 → command_of (map string_bytes words.now) ≡ None }
+    ensures no_command { command_of (map string_bytes words.now) ≡ None → (result.status ≡ 1) ⊎ (result.status ≡ 7) }
     ensures well { IsWell (record {
       texts = L.texts scripts.old;
       script_faults_before = L.faults scripts.old;
@@ -64,13 +68,14 @@ pub fn run_tool<L: Scripts, D: Disk, K: Sink>(
     let mut disk = disk;
     let ended = perform(alloc, words, scripts, &mut disk);
     let status = report(alloc, &ended, out);
-    let (fault, session) = match ended {
-        Ok(session) => (None, session),
-        Err(fault) => (Some(fault), Session::new(alloc)),
+    let (outcome, session) = match ended {
+        Ok(Done::Made) => (Ok(Command::Init), Session::new(alloc)),
+        Ok(Done::Played(session)) => (Ok(Command::Run), session),
+        Err(fault) => (Err(fault), Session::new(alloc)),
     };
     Finish {
         status,
-        fault,
+        outcome,
         disk,
         session,
     }
@@ -95,16 +100,19 @@ pub fn run<R: Threads + Wait + Sync, L: Scripts, D: Disk + Send, G: Gate + Sync,
       tells = D.tells_content;
       disk_before = D.told disk;
       disk = D.told result.disk;
-    }) (map string_bytes words.now) (ended result.fault result.session) }
-    ensures nothing_asked { IsSome result.fault → IsNoSession result.session }
-    ensures untouched { IsSome result.fault → IsUntouched (D.told disk) (D.told result.disk) }
+    }) (map string_bytes words.now) (ended result.outcome result.session) }
+    ensures nothing_asked { result.outcome ≢ Ok Command.Run → IsNoSession result.session }
+    // A fault leaves all as it was, but for one of the disk in `init`, which at most writes the first byte of the log.
+    ensures untouched { IfErr result.outcome (LeavesUntouched (map string_bytes words.now) (D.told disk) (D.told result.disk)) }
+    ensures init { command_of (map string_bytes words.now) ≡ Some Command.Init → ChangesFirstByte (D.told disk) (D.told result.disk) }
 
     // What is written and the status are those of this end.
     ensures reports { Reports (K.taken out.old) (K.taken out.new) (K.faults out.old) (K.faults out.new)
-        (ended result.fault result.session) result.status }
+        (ended result.outcome result.session) result.status }
 
     // Status 1 stands for words that are no command, and where all is well the status is 0, unless memory was wanted.
-    ensures usage { (result.status ≡ 1) ↔ (command_of (map string_bytes words.now) ≡ None) }
+    ensures usage { result.status ≡ 1 → command_of (map string_bytes words.now) ≡ None }
+    ensures no_command { command_of (map string_bytes words.now) ≡ None → (result.status ≡ 1) ⊎ (result.status ≡ 7) }
     ensures well { IsWell (record {
       texts = L.texts scripts.old;
       script_faults_before = L.faults scripts.old;

@@ -1,6 +1,6 @@
 use Rattle.std.proofs.Common.{map, string_bytes}
 use Rattle.watsql.specs.Ending.{Outside}
-use Rattle.watsql.proofs.EndingLemmas.{status_0}
+use Rattle.watsql.proofs.EndingLemmas.{status_0, status_1}
 use Rattle.watsql.proofs.tool.run_tool.Goals as goal
 
 pub returns-clause-well : goal.returns-clause-well
@@ -14,4 +14,17 @@ returns-clause-well g c =
       disk = g.D.Disk.told c.perform-ended.new.disk;
     } in
     status_0 outside (map string_bytes c.args.words.now) (g.K.Sink.taken c.args.out.now) (g.K.Sink.taken c.report-status.new.out) (g.K.Sink.faults c.args.out.now) (g.K.Sink.faults c.report-status.new.out)
+    c.perform-ended.result c.report-status.result c.perform-ended.ensures.ends c.report-status.ensures
+
+pub returns-clause-usage : goal.returns-clause-usage
+returns-clause-usage g c =
+    let outside : Outside = record {
+      texts = g.L.Scripts.texts c.args.scripts.now;
+      script_faults_before = g.L.Scripts.faults c.args.scripts.now;
+      script_faults = g.L.Scripts.faults c.perform-ended.new.scripts;
+      tells = g.D.Disk.tells_content;
+      disk_before = g.D.Disk.told c.args.disk;
+      disk = g.D.Disk.told c.perform-ended.new.disk;
+    } in
+    status_1 outside (map string_bytes c.args.words.now) (g.K.Sink.taken c.args.out.now) (g.K.Sink.taken c.report-status.new.out) (g.K.Sink.faults c.args.out.now) (g.K.Sink.faults c.report-status.new.out)
     c.perform-ended.result c.report-status.result c.perform-ended.ensures.ends c.report-status.ensures

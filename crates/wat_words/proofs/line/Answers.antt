@@ -1,0 +1,13 @@
+use Rattle.std.proofs.Common.{◌∙◌, ap, ap₂}
+use Rattle.std.proofs.lemmas.Result.{IfOk-weaker}
+use Rattle.clap.specs.Words.{App, Shape, with_subcommand}
+use Rattle.wat_words.proofs.line.Goals as goal
+
+abbrev top_of : App → Shape
+top_of a = a.top
+
+pub returns : goal.returns
+returns c =
+    let s0 = c.empty_line.ensures in
+    let s1 = c.in_ok-subcommand.ensures.shape c.alone.ensures.local ∙ ap₂ with_subcommand s0 (ap top_of c.alone.ensures.app) in
+    IfOk-weaker c.subcommand-2.result _ _ (λ r h. h.shape c.in_ok-run.ensures.local ∙ ap₂ with_subcommand s1 (ap top_of c.in_ok-run.ensures.app)) c.subcommand-2.ensures
