@@ -23,6 +23,8 @@ pub enum Reply {
 /// Why a statement was not done, by the tables as they stand.
 #[derive(Debug, Drop)]
 pub enum Refusal {
+    /// No statement of the language begins with the tokens up to the one at this place, counted in bytes of the script.
+    Syntax { at: u32 },
     /// A value is out of the range of its column.
     OutOfRange { column: TableColumn },
     /// A row with this key stands.

@@ -6,7 +6,7 @@ mod script;
 mod session;
 
 pub use answer::{Answer, Reason, Refusal, Reply, TableColumn};
-pub use script::{Script, ScriptList, Span, Spans};
+pub use script::{Script, ScriptList};
 pub use session::{Entry, Moments, Session, Transcript, Transcripts};
 
 #[cfg(test)]

@@ -54,12 +54,3 @@ impl Copied for Script {
 
 /// The scripts of the connections, from connection 1 on.
 pub type ScriptList = Items<Script>;
-
-/// A part of a script: its bytes from `from` on, up to the one before `to`.
-#[derive(Clone, Copy, Debug, PartialEq, Eq)]
-pub struct Span {
-    pub from: u32,
-    pub to: u32,
-}
-
-pub type Spans = Items<Span>;

@@ -10,7 +10,7 @@ use Rattle.std.proofs.lemmas.List.FromFn.{length-range_with_len}
 use Rattle.std.proofs.lemmas.List.Elements.{All-nil, All-cons, All-head, All-tail, All-append, All-push, All-weaker}
 use Rattle.wat_conn.specs.declared.answer.Answer.{Answer}
 use Rattle.wat_onetable.specs.declared.statement.Statement.{Statement}
-use Rattle.wat_onetable.specs.declared.statement.Statement.TheVariants.{Insert, Select, Commit, Other}
+use Rattle.wat_onetable.specs.declared.statement.Statement.TheVariants.{Insert, Select, Commit, Other, Malformed}
 use Rattle.wat_onetable.specs.Table.{State, begun, put, put_all, pending, is_integer, is_key_of, most_inserts, insert_answer, answer_of, opened, after, AreIntegers, AreInOrder, AreDistinct}
 use Rattle.wat_onetable.specs.Laws.{end_over, history_over, RowsSeen, SeenInOrder, CommitsInOrder, KeysDistinct, AllIntegers}
 use Rattle.wat_onetable.specs.History.{answers_from, state_after, committed_by, history_from, all_rows, rows_after, commit_number, commit_numbers}
@@ -132,6 +132,7 @@ statement_moves s (Insert key value) = insert_moves s key value
 statement_moves s Select = inl (record { rows = refl; order = refl })
 statement_moves s Commit = inl (record { rows = refl; order = committed_pending s.inserted })
 statement_moves s Other = inl (record { rows = refl; order = refl })
+statement_moves s (Malformed at) = inl (record { rows = refl; order = refl })
 
 int_eq_apart : (x y : ℤ) → int_eq x y ≡ false → y ≢ x
 int_eq_apart x y h e = both_ways (int_eq x y) h ((Decides-int_eq x y).1 (sym e))
@@ -248,6 +249,7 @@ commits_step s Commit = commits_of s.inserted s.commits where
   commits_of None n = sym (add-zero n)
   commits_of (Some t) n = refl
 commits_step s Other = sym (add-zero s.commits)
+commits_step s (Malformed at) = sym (add-zero s.commits)
 
 -- as many commits as transactions
 pub commits-history : (s : State) (qs : List Statement) → (state_after s qs).commits ≡ s.commits + length (history_from s qs)
@@ -264,6 +266,7 @@ committed_few s Commit = one_or_none s.inserted where
   one_or_none None = omega arith
   one_or_none (Some t) = omega arith
 committed_few s Other = omega arith
+committed_few s (Malformed at) = omega arith
 
 pub length-history_from-le : (s : State) (qs : List Statement) → length (history_from s qs) ≤ length qs
 length-history_from-le s [] = omega arith
@@ -310,6 +313,7 @@ commit_numbers-answers_from s (Insert key value ∷ qs) =
 commit_numbers-answers_from s (Select ∷ qs) = numbered_on s Select qs refl refl (commit_numbers-answers_from (after s Select) qs)
 commit_numbers-answers_from s (Commit ∷ qs) = numbered_commit s.rows s.inserted s.commits qs (commit_numbers-answers_from (after s Commit) qs)
 commit_numbers-answers_from s (Other ∷ qs) = numbered_on s Other qs refl refl (commit_numbers-answers_from (after s Other) qs)
+commit_numbers-answers_from s (Malformed at ∷ qs) = numbered_on s (Malformed at) qs refl refl (commit_numbers-answers_from (after s Other) qs)
 
 pub length-commit_numbers : (s : State) (qs : List Statement) → length (commit_numbers (answers_from s qs)) ≡ length (history_from s qs)
 length-commit_numbers s qs = ap length (commit_numbers-answers_from s qs) ∙ length-range_with_len (s.commits + 1) (length (history_from s qs))

@@ -1,4 +1,2 @@
-pub mod GroupLemmas
-pub mod NumeralLemmas
 pub mod RowLemmas
 pub mod Histories

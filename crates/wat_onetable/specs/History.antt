@@ -6,17 +6,13 @@ use Rattle.wat_conn.specs.declared.answer.Answer.{Answer}
 use Rattle.wat_conn.specs.declared.answer.Answer.TheVariants.{Given, Stopped}
 use Rattle.wat_conn.specs.declared.answer.Reply.TheVariants.{Committed}
 use Rattle.wat_conn.specs.declared.answer.Reason.{Reason}
-use Rattle.wat_conn.specs.declared.script.Span.{Span}
+use Rattle.wat_parse.specs.declared.script.Span.{Span}
+use Rattle.wat_parse.specs.Statements.{statements_of as spans_of}
 use Rattle.wat_conn.specs.declared.session.Entry.{Entry}
 use Rattle.wat_onetable.specs.declared.statement.Statement.{Statement}
 use Rattle.wat_onetable.specs.declared.statement.Statement.TheVariants.{Commit}
-use Rattle.wat_onetable.specs.Cut.{groups_of, text_at}
-use Rattle.wat_onetable.specs.Statement.{statement_of}
+use Rattle.wat_onetable.specs.Statement.{statements_of}
 use Rattle.wat_onetable.specs.Table.{State, begun, answer_of, after, put_all}
-
--- the statements of a script
-abbrev pub statements_of : List ℕ → List Statement
-statements_of text = map (λ span. statement_of (text_at text span)) (groups_of text)
 
 -- the answers to these statements in order
 abbrev pub answers_from : State → List Statement → List Answer
@@ -65,7 +61,7 @@ span_of e = record { from = e.from; to = e.to }
 -- Each statement of the script has its entry. The first so many are answered over these rows, and the others are the stop;
 -- where nothing stopped, all are answered.
 pub record Fits (rows : List (ℤ × ℤ)) (text : List ℕ) (stop : Option Reason) (answered : ℕ) (entries : List Entry) : Type 0 where
-  pub spans : map span_of entries ≡ groups_of text
+  pub spans : map span_of entries ≡ spans_of text
   pub answers : map (λ e. e.answer) entries
       ≡ take answered (answers_from (begun rows) (statements_of text)) ++ stopped_answers stop (length (statements_of text) - answered)
   pub within : answered ≤ length (statements_of text)

@@ -1,4 +1,3 @@
-pub mod Cut
 pub mod Statement
 pub mod Table
 pub mod History

@@ -7,10 +7,10 @@ use Rattle.wat_value.specs.declared.value.Value.TheVariants.{Int}
 use Rattle.wat_conn.specs.declared.answer.Answer.{Answer}
 use Rattle.wat_conn.specs.declared.answer.Answer.TheVariants.{Given, Refused, Unsupported}
 use Rattle.wat_conn.specs.declared.answer.Reply.TheVariants.{Rows, Inserted, Committed, NothingToCommit}
-use Rattle.wat_conn.specs.declared.answer.Refusal.TheVariants.{OutOfRange, Duplicate}
+use Rattle.wat_conn.specs.declared.answer.Refusal.TheVariants.{Syntax, OutOfRange, Duplicate}
 use Rattle.wat_conn.specs.declared.answer.TableColumn.TheVariants as column
 use Rattle.wat_onetable.specs.declared.statement.Statement.{Statement}
-use Rattle.wat_onetable.specs.declared.statement.Statement.TheVariants.{Insert, Select, Commit, Other}
+use Rattle.wat_onetable.specs.declared.statement.Statement.TheVariants.{Insert, Select, Commit, Other, Malformed}
 
 -- What the statements so far have made of the table.
 pub record State : Type 0 where
@@ -85,6 +85,7 @@ answer_of s (Insert key value) = insert_answer s key value
 answer_of s Select = Given (Rows (map row_of s.rows))
 answer_of s Commit = commit_answer s
 answer_of s Other = Unsupported
+answer_of s (Malformed at) = Refused (Syntax at)
 
 -- a transaction is open from now on
 abbrev pub opened : State → State
@@ -104,3 +105,4 @@ after s (Insert key value) = after_insert s (key, value) (insert_answer s key va
 after s Select = opened s
 after s Commit = after_commit s
 after s Other = s
+after s (Malformed at) = s

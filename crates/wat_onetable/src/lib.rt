@@ -1,7 +1,6 @@
-//! The statements over the one table t: how a script is cut, what a text spells, and what each statement is answered.
+//! The one table t: what a statement's tree asks of it, and what each statement is answered.
 #![tactic(auto)]
 
-mod cutting;
 mod laws;
 mod reading;
 mod statement;
@@ -9,8 +8,7 @@ mod table;
 #[cfg(test)]
 mod tests;
 
-pub use cutting::{groups, text_of};
 pub use laws::answer_laws;
-pub use reading::read_statement;
+pub use reading::{read_statement, served};
 pub use statement::Statement;
 pub use table::{RowMap, Table};

@@ -1,67 +1,112 @@
-ghost use Rattle.std.specs.Prelude.{◌≡◌, pos};
-ghost use Rattle.std.specs.Char.{is_ascii_digit};
-ghost use Rattle.std.specs.List.{list_all};
-ghost use Rattle.std.specs.Option.{option_map};
-ghost use Rattle.wat_onetable.specs.Statement.{digits_value, number_of, values_of, insert_of, statement_of};
+ghost use Rattle.std.specs.Prelude.{◌≡◌, ◌≤◌, length, IfOk};
+ghost use Rattle.std.specs.List.{Contains};
+ghost use Rattle.wat_parse.specs.Statements.{statements_of as spans_of};
+ghost use Rattle.wat_onetable.specs.Statement as spec;
+ghost use Rattle.wat_onetable.specs.Statement.{number_of, numbers_of, is_t, is_star, are_t, is_all_of_t, statement_at};
 
 use crate::statement::Statement;
+use std::alloc::{AllocError, Global};
+use wat_ast::{Expr, InsertSource, Names, Query, SelectItems, Source, UnaryOp};
+use wat_list::NoMemory;
+use wat_parse::{ParseRefusal, Span, statement};
+use wat_value::Value;
 
-fn all_digits(text: &str) -> bool
-    ensures { result ≡ list_all is_ascii_digit text.now }
+/// The number that an integer literal, or the minus of one, is.
+fn number(expr: &Expr) -> Option<i64>
+    ensures { result ≡ number_of expr.now }
 {
-    text.bytes().all(|byte| byte.is_ascii_digit())
-}
-
-/// The value of 1 to 18 digits.
-fn digits(text: &str) -> Option<i64>
-    ensures { result ≡ option_map pos (digits_value text.now) }
-{
-    let count = text.len();
-    if count == 0 || count > 18 || !all_digits(text) {
-        return None;
-    }
-    text.parse().ok()
-}
-
-/// 1 to 18 digits, perhaps behind a minus.
-fn number(text: &str) -> Option<i64>
-    ensures { result ≡ number_of text.now }
-{
-    match text.strip_prefix('-') {
-        Some(rest) => Some(-digits(rest)?),
-        None => digits(text),
+    match expr {
+        Expr::Literal(Value::Int(n)) => Some(*n),
+        Expr::Unary {
+            op: UnaryOp::Minus,
+            arg,
+        } => match arg.get() {
+            Expr::Literal(Value::Int(n)) => n.checked_neg(),
+            _ => None,
+        },
+        _ => None,
     }
 }
 
-/// Two numbers, with a comma and a space between them.
-fn values(text: &str) -> Option<(i64, i64)>
-    ensures { result ≡ values_of text.now }
+fn numbers(values: &[Expr]) -> Option<(i64, i64)>
+    ensures { result ≡ numbers_of values.now }
 {
-    let (key, rest) = text.split_once(',')?;
-    let value = rest.strip_prefix(" ")?;
-    Some((number(key)?, number(value)?))
+    match values {
+        [key, value] => Some((number(key)?, number(value)?)),
+        _ => None,
+    }
 }
 
-/// The numbers of an INSERT.
-fn insert(text: &str) -> Option<(i64, i64)>
-    ensures { result ≡ insert_of text.now }
+fn is_t(name: &str) -> bool
+    ensures { result ≡ is_t name.now }
 {
-    let rest = text.strip_prefix("INSERT INTO t VALUES (")?;
-    values(rest.strip_suffix(")")?)
+    name == "t"
 }
 
-/// The statement that this text spells. It takes no blanks at the ends, and no other spelling.
-pub fn read_statement(text: &str) -> Statement
-    ensures { result ≡ statement_of text.now }
+fn is_star(items: &SelectItems) -> bool
+    ensures { result ≡ is_star items.now }
 {
-    if text == "SELECT * FROM t" {
-        return Statement::Select;
+    matches!(items, SelectItems::Star)
+}
+
+fn are_t(sources: &[Source]) -> bool
+    ensures { result ≡ are_t sources.now }
+{
+    match sources {
+        [only] => is_t(only.table.as_str()) && only.alias.is_none(),
+        _ => false,
     }
-    if text == "COMMIT" {
-        return Statement::Commit;
+}
+
+fn is_all_of_t(query: &Query) -> bool
+    ensures { result ≡ is_all_of_t query.now }
+{
+    !query.distinct
+        && is_star(&query.items)
+        && are_t(query.sources.as_slice())
+        && query.filter.is_none()
+        && query.group.is_empty()
+        && query.having.is_none()
+        && query.order.is_empty()
+}
+
+fn inserted(table: &str, columns: &Option<Names>, source: &InsertSource) -> Statement
+    ensures { result ≡ spec.inserted table.now columns.now source.now }
+{
+    match (columns, source) {
+        (None, InsertSource::Values(values)) if is_t(table) => match numbers(values.as_slice()) {
+            Some((key, value)) => Statement::Insert(key, value),
+            None => Statement::Other,
+        },
+        _ => Statement::Other,
     }
-    match insert(text) {
-        Some((key, value)) => Statement::Insert(key, value),
-        None => Statement::Other,
+}
+
+/// What a tree asks of the table t.
+pub fn served(tree: &wat_ast::Statement) -> Statement
+    ensures { result ≡ spec.served tree.now }
+{
+    match tree {
+        wat_ast::Statement::Commit => Statement::Commit,
+        wat_ast::Statement::Select(query) if is_all_of_t(query) => Statement::Select,
+        wat_ast::Statement::Insert {
+            table,
+            columns,
+            source,
+        } => inserted(table.as_str(), columns, source),
+        _ => Statement::Other,
+    }
+}
+
+/// What the statement at this place of a script asks of the table t.
+pub fn read_statement(alloc: Global, text: &str, span: Span) -> Result<Statement, NoMemory>
+    requires short { length text.now ≤ 16777216 }
+    requires span { Contains (spans_of text.now) span }
+    ensures { IfOk result (λ read. read ≡ statement_at text.now span) }
+{
+    match statement(alloc, text, span) {
+        Ok(tree) => Ok(served(&tree)),
+        Err(ParseRefusal::Syntax { at }) => Ok(Statement::Malformed(at)),
+        Err(ParseRefusal::Memory) => Err(AllocError),
     }
 }

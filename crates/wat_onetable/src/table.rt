@@ -221,6 +221,7 @@ impl Table {
             Statement::Select => self.select(alloc),
             Statement::Commit => Ok(self.commit()),
             Statement::Other => Ok(Answer::Unsupported),
+            Statement::Malformed(at) => Ok(Answer::Refused(Refusal::Syntax { at })),
         }
     }
 }

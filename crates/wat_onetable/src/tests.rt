@@ -4,72 +4,6 @@ use std::test::Fail;
 use wat_conn::{Answer, Refusal, Reply, TableColumn};
 use wat_value::Value;
 
-#[test]
-fn scripts_are_cut_at_semicolons(rt: HostRuntime) -> Result<(), Fail> {
-    for (script, want) in [
-        ("", [].as_slice()),
-        (";", [].as_slice()),
-        (" \t\r\n;\n", [].as_slice()),
-        ("; a ;;b", [(2, 3), (6, 7)].as_slice()),
-        ("COMMIT", [(0, 6)].as_slice()),
-        ("\tx\r\n;y z", [(1, 2), (5, 8)].as_slice()),
-    ] {
-        let spans = groups(rt.alloc(), script)?;
-        assert_eq!(rt; spans.len(), want.len(), "groups of {script:?}");
-        for (span, (from, to)) in spans.as_slice().iter().zip(want) {
-            assert_eq!(rt; span.from, *from, "in {script:?}");
-            assert_eq!(rt; span.to, *to, "in {script:?}");
-        }
-    }
-    let script = " é ;é";
-    for span in groups(rt.alloc(), script)?.as_slice() {
-        assert_eq!(rt; text_of(script, *span), "é");
-    }
-    Ok(())
-}
-
-#[test]
-fn statements_are_spelled_exactly(rt: HostRuntime) {
-    for (text, want) in [
-        ("SELECT * FROM t", Statement::Select),
-        ("COMMIT", Statement::Commit),
-        ("INSERT INTO t VALUES (2, 5)", Statement::Insert(2, 5)),
-        ("INSERT INTO t VALUES (-0, 007)", Statement::Insert(0, 7)),
-        (
-            "INSERT INTO t VALUES (999999999999999999, -999999999999999999)",
-            Statement::Insert(999999999999999999, -999999999999999999),
-        ),
-        (
-            "INSERT INTO t VALUES (1000000000000000000, 1)",
-            Statement::Other,
-        ),
-        (
-            "INSERT INTO t VALUES (1, 0000000000000000000)",
-            Statement::Other,
-        ),
-        ("INSERT INTO t VALUES (-, 1)", Statement::Other),
-        ("INSERT INTO t VALUES (, 1)", Statement::Other),
-        ("INSERT INTO t VALUES (- 1, 1)", Statement::Other),
-        ("INSERT INTO t VALUES (+1, 1)", Statement::Other),
-        ("INSERT INTO t VALUES (--1, 1)", Statement::Other),
-        ("INSERT INTO t VALUES (1,1)", Statement::Other),
-        ("INSERT INTO t VALUES (1,  1)", Statement::Other),
-        ("INSERT INTO t VALUES (1, 1 )", Statement::Other),
-        ("INSERT INTO t VALUES (1, 1) ", Statement::Other),
-        ("INSERT INTO t VALUES (1, 1, 1)", Statement::Other),
-        ("INSERT INTO t VALUES (1)", Statement::Other),
-        ("INSERT INTO t VALUES (1, 1", Statement::Other),
-        ("INSERT  INTO t VALUES (1, 1)", Statement::Other),
-        ("insert INTO t VALUES (1, 1)", Statement::Other),
-        ("SELECT * FROM t ", Statement::Other),
-        ("SELECT k FROM t", Statement::Other),
-        ("commit", Statement::Other),
-        ("", Statement::Other),
-    ] {
-        assert_eq!(rt; read_statement(text), want, "{text:?}");
-    }
-}
-
 fn is_committed(answer: &Answer, number: u64) -> bool {
     match answer {
         Answer::Given(Reply::Committed(n)) => *n == number,
@@ -129,6 +63,9 @@ fn two_scripts_are_answered(rt: HostRuntime) -> Result<(), Fail> {
         })
     );
     assert!(rt; names_value);
+    let malformed = table.answer(rt.alloc(), Statement::Malformed(7))?;
+    let at_7 = matches!(malformed, Answer::Refused(Refusal::Syntax { at: 7 }));
+    assert!(rt; at_7);
     let committed = table.answer(rt.alloc(), Statement::Commit)?;
     assert!(rt; is_committed(&committed, 1));
     let deleted = table.answer(rt.alloc(), Statement::Other)?;

@@ -7,14 +7,14 @@ use Rattle.std.proofs.lemmas.List.Sums.{sum_by-cons, sum_by-append}
 use Rattle.wat_conn.specs.declared.answer.Answer.{Answer}
 use Rattle.wat_conn.specs.declared.answer.Answer.TheVariants.{Stopped}
 use Rattle.wat_conn.specs.declared.answer.Reason.{Reason}
-use Rattle.wat_conn.specs.declared.script.Span.{Span}
+use Rattle.wat_parse.specs.declared.script.Span.{Span}
 use Rattle.wat_conn.specs.declared.session.Entry.{Entry}
-use Rattle.wat_onetable.specs.Cut.{groups_of, text_at}
-use Rattle.wat_onetable.specs.Statement.{statement_of}
+use Rattle.wat_parse.specs.Statements.{statements_of as spans_of}
+use Rattle.wat_onetable.specs.Statement.{statement_at, statements_of}
 use Rattle.wat_onetable.specs.Table.{State, begun, pending, is_integer, is_key_of, most_inserts, insert_answer, commit_answer, answer_of, after}
 use Rattle.wat_onetable.specs.declared.statement.Statement.{Statement}
-use Rattle.wat_onetable.specs.declared.statement.Statement.TheVariants.{Insert, Select, Commit, Other}
-use Rattle.wat_onetable.specs.History.{statements_of, answers_from, stopped_answers, span_of, Fits}
+use Rattle.wat_onetable.specs.declared.statement.Statement.TheVariants.{Insert, Select, Commit, Other, Malformed}
+use Rattle.wat_onetable.specs.History.{answers_from, stopped_answers, span_of, Fits}
 use Rattle.wat_play.specs.Kept.{is_no_stop, answered_of}
 use Rattle.wat_play.specs.Session.{stopped_at, unanswered, IsAnswered}
 use Rattle.wat_play.proofs.SessionLemmas.{answers_from-take}
@@ -45,6 +45,7 @@ no_stop s (Insert key value) = inserted_no_stop s key value
 no_stop s Select = refl
 no_stop s Commit = committed_no_stop s.rows s.inserted s.commits
 no_stop s Other = refl
+no_stop s (Malformed at) = refl
 
 answered-cons : (e : Entry) (entries : List Entry) → answered_of (e ∷ entries) ≡ cond (is_no_stop e.answer) 1 0 + answered_of entries
 answered-cons e entries = sum_by-cons (λ (e : Entry). cond (is_no_stop e.answer) 1 0) e entries
@@ -90,13 +91,13 @@ unanswered_all : (stop : Option Reason) (spans : List Span) → map (λ e. e.ans
 unanswered_all None spans = refl
 unanswered_all (Some reason) spans = stopped_all reason spans
 
-pub fits : (rows : List (ℤ × ℤ)) (text : List ℕ) (stop : Option Reason) (entries all : List Entry) (left : List Span) → IsAnswered rows text stop entries → all ≡ entries ++ unanswered stop left → left ≡ drop (length entries) (groups_of text) → Fits rows text stop (answered_of all) all
+pub fits : (rows : List (ℤ × ℤ)) (text : List ℕ) (stop : Option Reason) (entries all : List Entry) (left : List Span) → IsAnswered rows text stop entries → all ≡ entries ++ unanswered stop left → left ≡ drop (length entries) (spans_of text) → Fits rows text stop (answered_of all) all
 fits rows text stop entries all left are added behind =
     let n = length entries in
-    let spans = groups_of text in
+    let spans = spans_of text in
     let rest = drop n spans in
     let is : all ≡ entries ++ unanswered stop rest = added ∙ ap (λ (l : List Span). entries ++ unanswered stop l) behind in
-    let many : length (statements_of text) ≡ length spans = length-map spans (λ span. statement_of (text_at text span)) in
+    let many : length (statements_of text) ≡ length spans = length-map spans (statement_at text) in
     let count : answered_of all ≡ n = answered_is rows text stop entries all rest are is in
     let few : length rest ≡ length (statements_of text) - n = omega (arith, length-drop n spans, many) in
     record {

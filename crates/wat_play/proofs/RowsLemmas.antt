@@ -9,7 +9,7 @@ use Rattle.std.proofs.lemmas.List.Concat.{flat_map-cons}
 use Rattle.std.proofs.lemmas.List.Elements.{All-nil, All-cons, All-head, All-tail, All-append, All-push}
 use Rattle.wat_gate.specs.Bodies.{bodies, IsWhole}
 use Rattle.wat_onetable.specs.declared.statement.Statement.{Statement}
-use Rattle.wat_onetable.specs.declared.statement.Statement.TheVariants.{Insert, Select, Commit, Other}
+use Rattle.wat_onetable.specs.declared.statement.Statement.TheVariants.{Insert, Select, Commit, Other, Malformed}
 use Rattle.wat_onetable.specs.Table.{State, begun, pending, put, put_all, is_integer, is_key_of, most_inserts, insert_answer, after, after_insert, after_commit, AreDistinct, AreIntegers}
 use Rattle.wat_onetable.specs.History.{state_after, committed_by, history_from, all_rows, rows_after}
 use Rattle.wat_onetable.proofs.Histories.{put_all-append, all_rows-append, rows_after-append}
@@ -123,6 +123,7 @@ at_more rows history s (Insert key value) is = same_history rows history (after 
 at_more rows history s Select is = same_history rows history (after s Select) (opened_at rows history s is)
 at_more rows history s Commit is = committed_at rows history s.rows s.inserted s.commits is
 at_more rows history s Other is = same_history rows history s is
+at_more rows history s (Malformed at) is = same_history rows history s is
 
 at_all : (rows : List (ℤ × ℤ)) (history : List (List (ℤ × ℤ))) (s : State) (qs : List Statement) → IsAt rows history s → IsAt rows (history ++ history_from s qs) (state_after s qs)
 at_all rows history s [] is = same_history rows history s is
@@ -159,6 +160,7 @@ saved_rows rows history s (Insert key value) is = none_saved (rows_after rows hi
 saved_rows rows history s Select is = none_saved (rows_after rows history)
 saved_rows rows history s Commit is = saved_pending (rows_after rows history) s.inserted s.rows s.commits is.new is.integers
 saved_rows rows history s Other is = none_saved (rows_after rows history)
+saved_rows rows history s (Malformed at) is = none_saved (rows_after rows history)
 
 -- Restart over a log to which these transactions were added gives their rows too.
 pub restarts_saved : (content new : List ℕ) (there : List (ℤ × ℤ)) (saved committed : List (List (ℤ × ℤ))) → Restarts content there → AreRowsOf there saved committed

@@ -6,16 +6,16 @@ use Rattle.std.proofs.lemmas.Bool.{cases_lt}
 use Rattle.wat_conn.specs.declared.answer.Answer.{Answer}
 use Rattle.wat_conn.specs.declared.answer.Reason.{Reason}
 use Rattle.wat_conn.specs.declared.answer.Reason.TheVariants.{DiskFault, Memory}
-use Rattle.wat_conn.specs.declared.script.Span.{Span}
+use Rattle.wat_parse.specs.declared.script.Span.{Span}
 use Rattle.wat_conn.specs.declared.session.Entry.{Entry}
 use Rattle.wat_disk.specs.Disk.{Told, SameOthers, HasCause, Rose}
 use Rattle.wat_gate.specs.Bodies.{bodies, IsWhole}
-use Rattle.wat_onetable.specs.Cut.{groups_of, text_at}
-use Rattle.wat_onetable.specs.Statement.{statement_of}
+use Rattle.wat_parse.specs.Statements.{statements_of as spans_of}
+use Rattle.wat_onetable.specs.Statement.{statement_at, statements_of}
 use Rattle.wat_onetable.specs.Table.{State, begun, answer_of, after}
 use Rattle.wat_onetable.specs.declared.statement.Statement.{Statement}
-use Rattle.wat_onetable.specs.declared.statement.Statement.TheVariants.{Insert, Select, Commit, Other}
-use Rattle.wat_onetable.specs.History.{statements_of, answers_from, state_after, committed_by, history_of, rows_after, span_of}
+use Rattle.wat_onetable.specs.declared.statement.Statement.TheVariants.{Insert, Select, Commit, Other, Malformed}
+use Rattle.wat_onetable.specs.History.{answers_from, state_after, committed_by, history_of, rows_after, span_of}
 use Rattle.wat_onetable.proofs.Histories.{state_after_more, history_from_more, answers_from_more, length-history_from-le}
 use Rattle.wat_rowlog.specs.Logged.{body_of, Restarts}
 use Rattle.wat_play.specs.Kept.{AreMoments, last_moment}
@@ -37,6 +37,7 @@ length-committed s (Insert key value) = omega arith
 length-committed s Select = omega arith
 length-committed s Commit = length-option s.inserted
 length-committed s Other = omega arith
+length-committed s (Malformed at) = omega arith
 
 -- the statements of a script
 abbrev pub at_place : List ℕ → ℕ → Statement
@@ -51,42 +52,42 @@ state_more rows text i here = state_after_more (begun rows) (statements_of text)
 pub history_more : (rows : List (ℤ × ℤ)) (text : List ℕ) (i : ℕ) → i < length (statements_of text) → history_of rows text (i + 1) ≡ history_of rows text i ++ committed_by (state_at rows text i) (at_place text i)
 history_more rows text i here = history_from_more (begun rows) (statements_of text) i Other here
 
-pub statement_is : (text : List ℕ) (i : ℕ) (span other : Span) → i < length (groups_of text) → get_or (groups_of text) i other ≡ span → at_place text i ≡ statement_of (text_at text span)
-statement_is text i span other here is = get_or-map (λ span. statement_of (text_at text span)) (groups_of text) i other Other here ∙ ap (λ (s : Span). statement_of (text_at text s)) is
+pub statement_is : (text : List ℕ) (i : ℕ) (span other : Span) → i < length (spans_of text) → get_or (spans_of text) i other ≡ span → at_place text i ≡ statement_at text span
+statement_is text i span other here is = get_or-map (statement_at text) (spans_of text) i other Other here ∙ ap (statement_at text) is
 
-pub few_commits : (rows : List (ℤ × ℤ)) (text : List ℕ) (i : ℕ) → (state_at rows text i).commits ≤ length (groups_of text)
-few_commits rows text i =
+pub few_commits : (rows : List (ℤ × ℤ)) (text : List ℕ) (i : ℕ) → i < length (spans_of text) → (state_at rows text i).commits ≤ i
+few_commits rows text i here =
     let is = at_statements rows (take i (statements_of text)) in
-    omega (arith, is.commits, length-history_from-le (begun rows) (take i (statements_of text)), length-take i (statements_of text), length-map (groups_of text) (λ span. statement_of (text_at text span)))
+    omega (arith, is.commits, length-history_from-le (begun rows) (take i (statements_of text)), length-take i (statements_of text), length-map (spans_of text) (statement_at text))
 
 -- The entries of the first statements.
 pub record AreEntries (rows : List (ℤ × ℤ)) (text : List ℕ) (i : ℕ) (entries : List Entry) : Type 0 where
   pub count : length entries ≡ i
-  pub spans : map span_of entries ≡ take i (groups_of text)
+  pub spans : map span_of entries ≡ take i (spans_of text)
   pub answers : map (λ e. e.answer) entries ≡ answers_from (begun rows) (take i (statements_of text))
 
 pub no_entries : (rows : List (ℤ × ℤ)) (text : List ℕ) → AreEntries rows text 0 []
 no_entries rows text = record { count = refl; spans = refl; answers = refl }
 
-pub entry_more : (rows : List (ℤ × ℤ)) (text : List ℕ) (i : ℕ) (entries new : List Entry) (span other : Span) (answer : Answer) → i < length (groups_of text) → get_or (groups_of text) i other ≡ span
+pub entry_more : (rows : List (ℤ × ℤ)) (text : List ℕ) (i : ℕ) (entries new : List Entry) (span other : Span) (answer : Answer) → i < length (spans_of text) → get_or (spans_of text) i other ≡ span
     → AreEntries rows text i entries → answer ≡ answer_of (state_at rows text i) (at_place text i) → new ≡ entries ++ record { from = span.from; to = span.to; answer = answer } ∷ [] → AreEntries rows text (i + 1) new
 entry_more rows text i entries new span other answer here is old answered added =
     let entry : Entry = record { from = span.from; to = span.to; answer = answer } in
-    let there : i < length (statements_of text) = omega (arith, length-map (groups_of text) (λ span. statement_of (text_at text span))) in
+    let there : i < length (statements_of text) = omega (arith, length-map (spans_of text) (statement_at text)) in
     record {
       count = ap length added ∙ length_push entries entry ∙ ap (λ (n : ℕ). n + 1) old.count;
       spans = ap (map span_of) added ∙ map-append span_of entries (entry ∷ []) ∙ ap (λ (l : List Span). l ++ span ∷ []) old.spans
-          ∙ ap (λ (s : Span). take i (groups_of text) ++ s ∷ []) (sym is) ∙ sym (take_more (groups_of text) i other here);
+          ∙ ap (λ (s : Span). take i (spans_of text) ++ s ∷ []) (sym is) ∙ sym (take_more (spans_of text) i other here);
       answers = ap (map (λ e. e.answer)) added ∙ map-append (λ e. e.answer) entries (entry ∷ []) ∙ ap (λ (l : List Answer). l ++ answer ∷ []) old.answers
           ∙ ap (λ (a : Answer). answers_from (begun rows) (take i (statements_of text)) ++ a ∷ []) answered
           ∙ sym (answers_from_more (begun rows) (statements_of text) i Other there);
     }
 
-pub entries_end : (rows : List (ℤ × ℤ)) (text : List ℕ) (i : ℕ) (entries : List Entry) (stop : Option Reason) → AreEntries rows text i entries → i ≤ length (groups_of text) → (stop ≡ None → i ≡ length (groups_of text)) → IsAnswered rows text stop entries
+pub entries_end : (rows : List (ℤ × ℤ)) (text : List ℕ) (i : ℕ) (entries : List Entry) (stop : Option Reason) → AreEntries rows text i entries → i ≤ length (spans_of text) → (stop ≡ None → i ≡ length (spans_of text)) → IsAnswered rows text stop entries
 entries_end rows text i entries stop are within whole =
-    let many : length (statements_of text) ≡ length (groups_of text) = length-map (groups_of text) (λ span. statement_of (text_at text span)) in
+    let many : length (statements_of text) ≡ length (spans_of text) = length-map (spans_of text) (statement_at text) in
     record {
-      spans = are.spans ∙ ap (λ (n : ℕ). take n (groups_of text)) (sym are.count);
+      spans = are.spans ∙ ap (λ (n : ℕ). take n (spans_of text)) (sym are.count);
       answers = are.answers ∙ answers_from-take (begun rows) i (statements_of text) ∙ ap (λ (n : ℕ). take n (answers_from (begun rows) (statements_of text))) (sym are.count);
       within = omega (arith, many, are.count);
       whole = λ none. are.count ∙ whole none ∙ sym many;
@@ -148,7 +149,7 @@ begins tells entry file rows text restarts = record {
   others = λ other not_it. refl;
 }
 
-pub goes_on : (tells : Type 0) (entry mid new : Told) (file : ℕ) (rows : List (ℤ × ℤ)) (text : List ℕ) (i : ℕ) (failed : Type 0) (moments new_moments : List ℕ) → i < length (groups_of text)
+pub goes_on : (tells : Type 0) (entry mid new : Told) (file : ℕ) (rows : List (ℤ × ℤ)) (text : List ℕ) (i : ℕ) (failed : Type 0) (moments new_moments : List ℕ) → i < length (spans_of text)
     → IsSession tells entry mid file rows text i None moments → entry.moment ≤ mid.moment → HasCause mid new failed → SameOthers file mid.content new.content
     → new_moments ≡ moments ++ map (λ _. new.moment) (committed_by (state_at rows text i) (at_place text i))
     → (tells → IsWhole (new.content file)) → (tells → bodies (new.content file) ≡ bodies (mid.content file) ++ map body_of (saved_by (state_at rows text i) (at_place text i)))
@@ -157,7 +158,7 @@ goes_on tells entry mid new file rows text i failed moments new_moments here old
     let q = at_place text i in
     let s = state_at rows text i in
     let h = history_of rows text i in
-    let there : i < length (statements_of text) = omega (arith, length-map (groups_of text) (λ span. statement_of (text_at text span))) in
+    let there : i < length (statements_of text) = omega (arith, length-map (spans_of text) (statement_at text)) in
     let more : history_of rows text (i + 1) ≡ h ++ committed_by s q = history_more rows text i there in
     record {
       commits = ap length noted ∙ length-append moments (map (λ _. new.moment) (committed_by s q)) ∙ (λ j. old.commits j + length-map (committed_by s q) (λ _. new.moment) j) ∙ sym (length-append h (committed_by s q)) ∙ ap length (sym more);

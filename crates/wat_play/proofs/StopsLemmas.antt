@@ -9,8 +9,9 @@ use Rattle.wat_disk.proofs.Stops.{left_stays, left_goes_on, left_synced}
 use Rattle.wat_gate.specs.Bodies.{bodies}
 use Rattle.wat_onetable.specs.Table.{State, begun}
 use Rattle.wat_onetable.specs.declared.statement.Statement.{Statement}
-use Rattle.wat_onetable.specs.declared.statement.Statement.TheVariants.{Insert, Select, Commit, Other}
-use Rattle.wat_onetable.specs.History.{statements_of, state_after, committed_by, history_of, rows_after}
+use Rattle.wat_onetable.specs.declared.statement.Statement.TheVariants.{Insert, Select, Commit, Other, Malformed}
+use Rattle.wat_onetable.specs.Statement.{statements_of}
+use Rattle.wat_onetable.specs.History.{state_after, committed_by, history_of, rows_after}
 use Rattle.wat_rowlog.specs.Logged.{body_of, Restarts}
 use Rattle.wat_play.specs.Kept.{commit_under_way, cut_of, RestartsBetween, KeepsCommits, AreMoments}
 use Rattle.wat_play.specs.Saved.{framed, saved_by, KeepsOrSaves}
@@ -181,6 +182,7 @@ cut_is rows before (Insert key value) rest some = absurd (some refl)
 cut_is rows before Select rest some = absurd (some refl)
 cut_is rows before Commit rest some = cut_pending ((state_after (begun rows) before).inserted) some
 cut_is rows before Other rest some = absurd (some refl)
+cut_is rows before (Malformed at) rest some = absurd (some refl)
 
 -- the session has stopped
 pub keeps_stopped : (entry mid new : Told) (file : ℕ) (rows : List (ℤ × ℤ)) (text : List ℕ) (i : ℕ) (moments : List ℕ) (reason : Reason) → i < length (statements_of text)

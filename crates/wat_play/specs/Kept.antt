@@ -9,7 +9,8 @@ use Rattle.wat_disk.specs.Disk.{Image, Told, EachLeft}
 use Rattle.wat_onetable.specs.declared.statement.Statement.{Statement}
 use Rattle.wat_onetable.specs.declared.statement.Statement.TheVariants.{Commit}
 use Rattle.wat_onetable.specs.Table.{begun}
-use Rattle.wat_onetable.specs.History.{statements_of, state_after, rows_after}
+use Rattle.wat_onetable.specs.Statement.{statements_of}
+use Rattle.wat_onetable.specs.History.{state_after, rows_after}
 use Rattle.wat_rowlog.specs.Logged.{Restarts}
 
 abbrev pub is_no_stop : Answer → Bool

@@ -3,12 +3,13 @@ use Rattle.std.specs.Prelude.{◌≡◌, ◌≢◌, ℕ, ◌≤◌, List, [], le
 use Rattle.wat_conn.specs.declared.answer.Answer.TheVariants.{Stopped}
 use Rattle.wat_conn.specs.declared.answer.Reason.{Reason}
 use Rattle.wat_conn.specs.declared.answer.Reason.TheVariants.{DiskFault}
-use Rattle.wat_conn.specs.declared.script.Span.{Span}
+use Rattle.wat_parse.specs.declared.script.Span.{Span}
+use Rattle.wat_parse.specs.Statements.{statements_of as spans_of}
 use Rattle.wat_conn.specs.declared.session.Entry.{Entry}
 use Rattle.wat_disk.specs.Disk.{Told, SameOthers, Rose}
-use Rattle.wat_onetable.specs.Cut.{groups_of}
+use Rattle.wat_onetable.specs.Statement.{statements_of}
 use Rattle.wat_onetable.specs.Table.{begun}
-use Rattle.wat_onetable.specs.History.{statements_of, answers_from, history_of, rows_after, span_of}
+use Rattle.wat_onetable.specs.History.{answers_from, history_of, rows_after, span_of}
 use Rattle.wat_rowlog.specs.Logged.{Restarts}
 use Rattle.wat_play.specs.Kept.{AreMoments, last_moment}
 
@@ -23,7 +24,7 @@ unanswered (Some reason) spans = map (stopped_at reason) spans
 
 -- These are the entries of the first statements; where nothing stopped, of all.
 pub record IsAnswered (rows : List (ℤ × ℤ)) (text : List ℕ) (stop : Option Reason) (entries : List Entry) : Type 0 where
-  pub spans : map span_of entries ≡ take (length entries) (groups_of text)
+  pub spans : map span_of entries ≡ take (length entries) (spans_of text)
   pub answers : map (λ e. e.answer) entries ≡ take (length entries) (answers_from (begun rows) (statements_of text))
   pub within : length entries ≤ length (statements_of text)
   pub whole : stop ≡ None → length entries ≡ length (statements_of text)

@@ -1,20 +1,24 @@
-ghost use Rattle.std.specs.Prelude.{◌≡◌, ◌≢◌, ◌+◌, ◌≤◌, ◌++◌, [], ℕ, length, map, None, Some, IfOk, OnErr, All};
-ghost use Rattle.wat_disk.specs.Disk.{IsSynced, SameFiles, SameOthers, EachStop, Rose};
-ghost use Rattle.wat_gate.specs.GateLog.{file_of, IsLogOf};
-ghost use Rattle.wat_onetable.specs.Cut.{groups_of, IsPart};
-ghost use Rattle.wat_onetable.specs.Table.{begun};
-ghost use Rattle.wat_onetable.specs.History.{Fits, history_of, rows_after, span_of, stopped_answers};
+ghost use Rattle.std.specs.Prelude.{◌≡◌, ◌≢◌, ◌+◌, ◌<◌, ◌≤◌, ◌^◌, ◌++◌, [], ℕ, length, map, None, Some, Err, IfOk, OnOk, OnErr};
+ghost use Rattle.wat_disk.specs.Disk.{IsSynced, InFile, SameFiles, SameOthers, EachStop, HasCause, Rose};
+ghost use Rattle.wat_gate.specs.GateLog.{file_of, bodies_in, IsLogOf};
+ghost use Rattle.wat_parse.specs.Statements.{statements_of as spans_of};
+ghost use Rattle.std.specs.List.{Contains};
+ghost use Rattle.wat_onetable.specs.Statement.{statement_at};
+ghost use Rattle.wat_onetable.specs.Table.{begun, answer_of, after};
+ghost use Rattle.wat_onetable.specs.History.{Fits, committed_by, history_of, rows_after, span_of, stopped_answers};
 ghost use Rattle.wat_rowlog.specs.Opened.{IsOpened};
-ghost use Rattle.wat_rowlog.specs.Logged.{Restarts};
+ghost use Rattle.wat_rowlog.specs.Logged.{body_of, Restarts};
+ghost use Rattle.wat_play.specs.Saved.{saved_by, KeepsOrSaves};
 ghost use Rattle.wat_play.specs.Kept.{answered_of, cut_of, KeepsCommits, AreMoments, last_moment};
 ghost use Rattle.wat_play.specs.Session.{stopped_at, unanswered, IsAnswered, IsSession};
 
 use crate::player::Player;
 use std::alloc::Global;
-use wat_conn::{Answer, Entry, Moments, Reason, Span, Transcript};
+use wat_conn::{Answer, Entry, Moments, Reason, Transcript};
 use wat_disk::Disk;
 use wat_list::{NoMemory, Reserved};
-use wat_onetable::{Table, groups, read_statement, text_of};
+use wat_onetable::{Table, read_statement};
+use wat_parse::{Span, statements};
 use wat_rowlog::{LOG, Opened};
 
 /// What playing a script came to.
@@ -28,6 +32,42 @@ pub struct Played {
     pub stop: Option<Reason>,
 }
 
+/// Reads the statement at this place of the script, and answers it. After a refusal the session has stopped.
+fn answer_at<D: Disk>(
+    alloc: Global,
+    script: &str,
+    span: Span,
+    player: &mut Player,
+    disk: &mut D,
+) -> Result<Answer, Reason>
+    requires short { length script.now ≤ 16777216 }
+    requires span { Contains (spans_of script.now) span }
+    requires known { D.tells_content → IsLogOf (D.told disk.old) player.old.log }
+    requires commits { player.old.table.commits + 1 < 2 ^ 64 }
+    requires room { 0 < player.old.moments.spare }
+    ensures answer { IfOk result (λ answer. answer ≡ answer_of player.old.table (statement_at script.now span)) }
+    ensures table { OnOk result (player.new.table ≡ after player.old.table (statement_at script.now span)) }
+    ensures moments { OnOk result (player.new.moments.items ≡ player.old.moments.items ++ map (λ _. (D.told disk.new).moment) (committed_by player.old.table (statement_at script.now span))) }
+    ensures moments_stay { OnErr result (player.new.moments ≡ player.old.moments) }
+    ensures room { player.old.moments.spare ≤ player.new.moments.spare + 1 }
+    ensures known { D.tells_content → OnOk result (IsLogOf (D.told disk.new) player.new.log) }
+    ensures saved { D.tells_content → OnOk result (bodies_in (D.told disk.new) player.new.log ≡ bodies_in (D.told disk.old) player.old.log ++ map body_of (saved_by player.old.table (statement_at script.now span))) }
+    ensures synced { OnOk result (IsSynced (D.told disk.old) (file_of player.old.log) → IsSynced (D.told disk.new) (file_of player.old.log)) }
+    ensures file { file_of player.new.log ≡ file_of player.old.log }
+    ensures others { SameOthers (file_of player.old.log) (D.told disk.old).content (D.told disk.new).content }
+    ensures stops { D.tells_content → IsSynced (D.told disk.old) (file_of player.old.log)
+        → EachStop (D.told disk.old) (D.told disk.new) (InFile (file_of player.old.log) (KeepsOrSaves (saved_by player.old.table (statement_at script.now span)))) }
+    ensures cause { HasCause (D.told disk.old) (D.told disk.new) (result ≡ Err Reason.DiskFault) }
+    ensures memory { result ≡ Err Reason.Memory → disk.new ≡ disk.old }
+    ensures fault { result ≡ Err Reason.DiskFault → saved_by player.old.table (statement_at script.now span) ≢ [] }
+    ensures quiet { committed_by player.old.table (statement_at script.now span) ≡ [] → disk.new ≡ disk.old }
+{
+    match read_statement(alloc, script, span) {
+        Ok(statement) => player.answer(alloc, statement, disk),
+        Err(_) => Err(Reason::Memory),
+    }
+}
+
 /// Answers the statements in order, up to the first that stops the session.
 fn answer_until_stop<D: Disk>(
     alloc: Global,
@@ -37,10 +77,9 @@ fn answer_until_stop<D: Disk>(
     disk: &mut D,
     entries: &mut Reserved<Entry>,
 ) -> Option<Reason>
-    requires spans { spans.now ≡ groups_of script.now }
-    requires parts { All (IsPart script.now) spans.now }
+    requires spans { spans.now ≡ spans_of script.now }
     requires short { length script.now ≤ 16777216 }
-    requires count { length spans.now ≤ length script.now }
+    requires count { length spans.now < 2 ^ 64 }
     requires begun { player.old.table ≡ begun player.old.table.rows }
     requires none { entries.old.items ≡ [] }
     requires no_moments { player.old.moments.items ≡ [] }
@@ -57,7 +96,7 @@ fn answer_until_stop<D: Disk>(
     ensures room { length spans.now ≤ length entries.new.items + entries.new.spare }
 {
     for span in spans {
-        match player.answer(alloc, read_statement(text_of(script, *span)), disk) {
+        match answer_at(alloc, script, *span, player, disk) {
             Ok(answer) => entries.push(Entry {
                 from: span.from,
                 to: span.to,
@@ -141,7 +180,7 @@ pub fn play<D: Disk>(
     ensures not_begun { OnErr result (SameFiles (D.told disk.old).content (D.told disk.new).content) }
     ensures not_begun_stops { OnErr result (EachStop (D.told disk.old) (D.told disk.new) SameFiles) }
 {
-    let spans = groups(alloc, script)?;
+    let spans = statements(alloc, script)?;
     let count = spans.len();
     let mut entries = with_room(alloc, count)?;
     let moments = with_room(alloc, count)?;

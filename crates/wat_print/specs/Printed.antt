@@ -7,7 +7,7 @@ use Rattle.wat_conn.specs.declared.answer.TableColumn.TheVariants as column
 use Rattle.wat_conn.specs.declared.answer.Reply.{Reply}
 use Rattle.wat_conn.specs.declared.answer.Reply.TheVariants.{Rows, Inserted, Committed, NothingToCommit}
 use Rattle.wat_conn.specs.declared.answer.Refusal.{Refusal}
-use Rattle.wat_conn.specs.declared.answer.Refusal.TheVariants.{OutOfRange, Duplicate}
+use Rattle.wat_conn.specs.declared.answer.Refusal.TheVariants.{Syntax, OutOfRange, Duplicate}
 use Rattle.wat_conn.specs.declared.answer.Reason.{Reason}
 use Rattle.wat_conn.specs.declared.answer.Reason.TheVariants.{DiskFault, Memory}
 use Rattle.wat_conn.specs.declared.answer.Answer.{Answer}
@@ -34,6 +34,7 @@ column_text column.Key = codes "k"
 column_text column.Value = codes "v"
 
 abbrev pub refusal_text : Refusal → List ℕ
+refusal_text (Syntax at) = line (codes "error Syntax at " ++ decimal at)
 refusal_text (OutOfRange column) = line (codes "error OutOfRange " ++ column_text column)
 refusal_text (Duplicate key) = line (codes "error Duplicate " ++ row_text key)
 

@@ -65,6 +65,7 @@ fn push_refusal(out: &mut Vec<u8>, refusal: &Refusal) -> Result<(), NoMemory>
     ensures { OnOk result (out.new.items ≡ out.old.items ++ refusal_text refusal.now) }
 {
     match refusal {
+        Refusal::Syntax { at } => push_count(out, b"error Syntax at ", u64::from(*at)),
         Refusal::OutOfRange { column } => push_out_of_range(out, *column),
         Refusal::Duplicate { key } => push_duplicate(out, key),
     }

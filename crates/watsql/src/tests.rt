@@ -27,6 +27,18 @@ const REFUSALS: &str =
 const REFUSALS_TEXT: &str =
     "connection 1\n1: error Duplicate (2)\n2: error OutOfRange v\n3: committed 1\n4: unsupported\ncommits 1\n";
 
+/// What of the language is served is a matter of the tree.
+const TREES: &str = "insert t values ((2), - 5); INSERT INTO t (k, v) VALUES (1, 2); INSERT INTO t VALUES (1); INSERT INTO t VALUES (1, 1 + 1); \
+    INSERT INTO u VALUES (1, 2); SELECT * FROM t x; SELECT DISTINCT * FROM t; SELECT * FROM t WHERE k = 2; ROLLBACK; select * from T;";
+
+const TREES_TEXT: &str =
+    "connection 1\n1: inserted 1\n2: unsupported\n3: unsupported\n4: unsupported\n5: unsupported\n6: unsupported\n7: unsupported\n8: unsupported\n9: unsupported\n10: rows 1\n(2, -5)\ncommits 0\n";
+
+const MALFORMED: &str = "commit 1; SELECT FROM t; INSERT INTO t VALUES (1, 2; COMMIT WORK";
+
+const MALFORMED_TEXT: &str =
+    "connection 1\n1: error Syntax at 7\n2: error Syntax at 17\n3: error Syntax at 51\n4: nothing to commit\ncommits 0\n";
+
 const NO_DISK: &str = "watsql: disk fault\n";
 
 const USAGE: &str = "watsql: usage\n";
@@ -124,7 +136,16 @@ fn rows_are_answered_and_logged(rt: HostRuntime) -> Result<(), Fail> {
     let rows = [
         (empty, ONE_ROW, ONE_ROW_TEXT, logged),
         (logged, REFUSALS, REFUSALS_TEXT, logged),
-        (empty, " ;\t", "connection 1\ncommits 0\n", empty),
+        (empty, "", "connection 1\ncommits 0\n", empty),
+        (empty, ";", "connection 1\ncommits 0\n", empty),
+        (empty, TREES, TREES_TEXT, empty),
+        (empty, MALFORMED, MALFORMED_TEXT, empty),
+        (
+            empty,
+            "SELECT 'abc",
+            "connection 1\n1: error Syntax at 7\ncommits 0\n",
+            empty,
+        ),
     ];
     for (log, script, text, left) in rows {
         let (mut finish, wrote) = call(rt.alloc(), "run a.sql", &over(log, script.as_bytes()))?;

@@ -1,13 +1,13 @@
 -- Each turn is one statement more.
 use Rattle.std.proofs.Common.{◌≡◌, ◌+◌, ◌<◌, ◌++◌, ℕ, List, map, length, get_or, Err, None, Some, take, ℤ, refl, sym, ◌∙◌, ap, subst, arith}
 use Rattle.std.proofs.lemmas.List.{length-map}
-use Rattle.wat_conn.specs.declared.script.Span.{Span}
+use Rattle.wat_parse.specs.declared.script.Span.{Span}
 use Rattle.wat_disk.specs.Disk.{IsSynced, InFile, SameOthers, EachStop}
 use Rattle.wat_gate.specs.Bodies.{bodies, IsWhole}
 use Rattle.wat_gate.specs.GateLog.{file_of}
-use Rattle.wat_onetable.specs.Cut.{groups_of, text_at}
-use Rattle.wat_onetable.specs.Statement.{statement_of}
-use Rattle.wat_onetable.specs.History.{statements_of, committed_by, history_of, rows_after}
+use Rattle.wat_parse.specs.Statements.{statements_of as spans_of}
+use Rattle.wat_onetable.specs.Statement.{statement_at, statements_of}
+use Rattle.wat_onetable.specs.History.{committed_by, history_of, rows_after}
 use Rattle.wat_onetable.specs.Table.{State, answer_of, after}
 use Rattle.wat_onetable.specs.declared.statement.Statement.{Statement}
 use Rattle.wat_rowlog.specs.Logged.{body_of, Restarts}
@@ -19,10 +19,11 @@ use Rattle.wat_play.proofs.StopsLemmas.{KeepsAll, keeps_goes_on, keeps_commits, 
 use Rattle.wat_play.proofs.SessionLemmas.{history_more, length-committed, at_place, state_at, state_more, few_commits, statement_is, entries_end, entry_more, goes_on, stops_here}
 use Rattle.wat_play.proofs.playing.answer_until_stop.Goals as goal
 
-pub answer-requires-clause-commits : goal.answer-requires-clause-commits
-answer-requires-clause-commits g c =
+pub answer_at-requires-clause-commits : goal.answer_at-requires-clause-commits
+answer_at-requires-clause-commits g c =
     let i = c.loop-span.invariant in
-    omega (arith, ap (λ (s : State). s.commits) i.table, few_commits c.args.player.now.table.rows c.args.script.now c.loop-span.span-index, ap length c.requires.spans, c.requires.count, c.requires.short)
+    let here : c.loop-span.span-index < length (spans_of c.args.script.now) = omega (arith, ap length c.requires.spans, c.loop-span-test.true) in
+    omega (arith, ap (λ (s : State). s.commits) i.table, few_commits c.args.player.now.table.rows c.args.script.now c.loop-span.span-index here, c.loop-span-test.true, c.requires.count)
 
 pub returns-in-Err-clause-answered : goal.returns-in-Err-clause-answered
 returns-in-Err-clause-answered g c =
@@ -36,47 +37,47 @@ loop-span-preserved g c =
     let tells = g.D.Disk.tells_content in
     let entry = g.D.Disk.told c.args.disk.now in
     let mid = g.D.Disk.told c.loop-span.disk in
-    let new = g.D.Disk.told c.answer.new.disk in
+    let new = g.D.Disk.told c.answer_at.new.disk in
     let rows = c.args.player.now.table.rows in
     let text = c.args.script.now in
     let i = c.loop-span.span-index in
     let file = file_of c.args.player.now.log in
     let none : Span = record { from = 0; to = 0 } in
     let span : Span = get_or c.args.spans.now i none in
-    let here : i < length (groups_of text) = omega (arith, ap length c.requires.spans, c.loop-span-test.true) in
-    let is : get_or (groups_of text) i none ≡ span = ap (λ (l : List Span). get_or l i none) (sym c.requires.spans) in
-    let q : c.read_statement.result ≡ at_place text i = c.read_statement.ensures ∙ ap statement_of c.text_of.ensures ∙ sym (statement_is text i span none here is) in
+    let here : i < length (spans_of text) = omega (arith, ap length c.requires.spans, c.loop-span-test.true) in
+    let is : get_or (spans_of text) i none ≡ span = ap (λ (l : List Span). get_or l i none) (sym c.requires.spans) in
+    let q : statement_at text span ≡ at_place text i = sym (statement_is text i span none here is) in
     let s : c.loop-span.player.table ≡ state_at rows text i = inv.table in
-    let there : i < length (statements_of text) = omega (arith, here, length-map (groups_of text) (λ span. statement_of (text_at text span))) in
+    let there : i < length (statements_of text) = omega (arith, here, length-map (spans_of text) (statement_at text)) in
     let more = history_more rows text i there in
     let call_synced : IsSynced mid file → IsSynced new file = subst (λ (f : ℕ). IsSynced mid f → IsSynced new f) inv.file c.in-Ok.ensures.synced in
     let call_stops : tells → IsSynced mid file → EachStop mid new (InFile file (KeepsOrSaves (saved_by (state_at rows text i) (at_place text i)))) = λ t.
-    let here_stops = subst (λ (f : ℕ). IsSynced mid f → EachStop mid new (InFile f (KeepsOrSaves (saved_by c.loop-span.player.table c.read_statement.result)))) inv.file (c.answer.ensures.stops t) in
-    let over_state = subst (λ (st : State). IsSynced mid file → EachStop mid new (InFile file (KeepsOrSaves (saved_by st c.read_statement.result)))) s here_stops in
+    let here_stops = subst (λ (f : ℕ). IsSynced mid f → EachStop mid new (InFile f (KeepsOrSaves (saved_by c.loop-span.player.table (statement_at text span))))) inv.file (c.answer_at.ensures.stops t) in
+    let over_state = subst (λ (st : State). IsSynced mid file → EachStop mid new (InFile file (KeepsOrSaves (saved_by st (statement_at text span))))) s here_stops in
     subst (λ (st : Statement). IsSynced mid file → EachStop mid new (InFile file (KeepsOrSaves (saved_by (state_at rows text i) st)))) q over_state in
-    let noted : c.answer.new.self.moments.items ≡ c.loop-span.player.moments.items ++ map (λ _. new.moment) (committed_by (state_at rows text i) (at_place text i)) =
+    let noted : c.answer_at.new.player.moments.items ≡ c.loop-span.player.moments.items ++ map (λ _. new.moment) (committed_by (state_at rows text i) (at_place text i)) =
     c.in-Ok.ensures.moments ∙ (λ j. c.loop-span.player.moments.items ++ map (λ _. new.moment) (committed_by (s j) (q j))) in
-    let whole : tells → IsWhole (new.content file) = λ t. subst (λ (f : ℕ). IsWhole (new.content f)) (c.answer.ensures.file ∙ inv.file) (c.in-Ok.ensures.known t).whole in
+    let whole : tells → IsWhole (new.content file) = λ t. subst (λ (f : ℕ). IsWhole (new.content f)) (c.answer_at.ensures.file ∙ inv.file) (c.in-Ok.ensures.known t).whole in
     let added : tells → bodies (new.content file) ≡ bodies (mid.content file) ++ map body_of (saved_by (state_at rows text i) (at_place text i)) = λ t.
-    ap (λ (f : ℕ). bodies (new.content f)) (sym (c.answer.ensures.file ∙ inv.file)) ∙ c.in-Ok.ensures.saved t ∙ (λ j. bodies (mid.content (inv.file j)) ++ map body_of (saved_by (s j) (q j))) in
-    let session : IsSession tells entry new file rows text (i + 1) None c.answer.new.self.moments.items =
-    goes_on tells entry mid new file rows text i _ c.loop-span.player.moments.items c.answer.new.self.moments.items here inv.session inv.later c.answer.ensures.cause
-    (subst (λ (f : ℕ). SameOthers f mid.content new.content) inv.file c.answer.ensures.others) noted whole added
-    (λ none_committed. ap (λ d. (g.D.Disk.told d).moment) (c.answer.ensures.quiet ((λ j. committed_by (s j) (q j)) ∙ none_committed))) in
+    ap (λ (f : ℕ). bodies (new.content f)) (sym (c.answer_at.ensures.file ∙ inv.file)) ∙ c.in-Ok.ensures.saved t ∙ (λ j. bodies (mid.content (inv.file j)) ++ map body_of (saved_by (s j) (q j))) in
+    let session : IsSession tells entry new file rows text (i + 1) None c.answer_at.new.player.moments.items =
+    goes_on tells entry mid new file rows text i _ c.loop-span.player.moments.items c.answer_at.new.player.moments.items here inv.session inv.later c.answer_at.ensures.cause
+    (subst (λ (f : ℕ). SameOthers f mid.content new.content) inv.file c.answer_at.ensures.others) noted whole added
+    (λ none_committed. ap (λ d. (g.D.Disk.told d).moment) (c.answer_at.ensures.quiet ((λ j. committed_by (s j) (q j)) ∙ none_committed))) in
     record {
       table = c.in-Ok.ensures.table ∙ (λ j. after (s j) (q j)) ∙ sym (state_more rows text i there);
-      file = c.answer.ensures.file ∙ inv.file;
+      file = c.answer_at.ensures.file ∙ inv.file;
       known = λ t. c.in-Ok.ensures.known t;
       entries = entry_more rows text i c.loop-span.entries.items c.push.new.self.items span none c.in-Ok.answer here is inv.entries (c.in-Ok.ensures.answer ∙ (λ j. answer_of (s j) (q j))) c.push.ensures.items;
       entry_room = omega (arith, inv.entry_room, c.push.ensures.spare);
-      moment_room = omega (arith, inv.moment_room, c.answer.ensures.room);
-      later = omega (arith, inv.later, c.answer.ensures.cause.later);
+      moment_room = omega (arith, inv.moment_room, c.answer_at.ensures.room);
+      later = omega (arith, inv.later, c.answer_at.ensures.cause.later);
       session = session;
       synced = λ t begun. call_synced (inv.synced t begun);
-      stops = λ t begun. subst (λ (h : List (List (ℤ × ℤ))). KeepsAll entry new file rows h c.answer.new.self.moments.items) (sym more)
+      stops = λ t begun. subst (λ (h : List (List (ℤ × ℤ))). KeepsAll entry new file rows h c.answer_at.new.player.moments.items) (sym more)
           (keeps_goes_on entry mid new file rows (history_of rows text i) (state_at rows text i) (at_place text i) c.loop-span.player.moments.items
           (at_statements rows (take i (statements_of text))) (inv.synced t begun) (inv.session.kept t refl) (call_stops t (inv.synced t begun)) (inv.stops t begun) inv.session.order inv.session.commits
-          c.answer.new.self.moments.items noted (length-committed (state_at rows text i) (at_place text i)) (call_synced (inv.synced t begun))
+          c.answer_at.new.player.moments.items noted (length-committed (state_at rows text i) (at_place text i)) (call_synced (inv.synced t begun))
           (subst (λ (h : List (List (ℤ × ℤ))). Restarts (new.content file) (rows_after rows h)) more (session.kept t refl)));
     }
 
@@ -85,27 +86,27 @@ returns-in-Err-clause-stops g c t begun =
     let inv = c.loop-span.invariant in
     let entry = g.D.Disk.told c.args.disk.now in
     let mid = g.D.Disk.told c.loop-span.disk in
-    let new = g.D.Disk.told c.answer.new.disk in
+    let new = g.D.Disk.told c.answer_at.new.disk in
     let rows = c.args.player.now.table.rows in
     let text = c.args.script.now in
     let i = c.loop-span.span-index in
     let file = file_of c.args.player.now.log in
     let none : Span = record { from = 0; to = 0 } in
     let span : Span = get_or c.args.spans.now i none in
-    let here : i < length (groups_of text) = omega (arith, ap length c.requires.spans, c.loop-span-test.true) in
-    let is : get_or (groups_of text) i none ≡ span = ap (λ (l : List Span). get_or l i none) (sym c.requires.spans) in
-    let q : c.read_statement.result ≡ at_place text i = c.read_statement.ensures ∙ ap statement_of c.text_of.ensures ∙ sym (statement_is text i span none here is) in
+    let here : i < length (spans_of text) = omega (arith, ap length c.requires.spans, c.loop-span-test.true) in
+    let is : get_or (spans_of text) i none ≡ span = ap (λ (l : List Span). get_or l i none) (sym c.requires.spans) in
+    let q : statement_at text span ≡ at_place text i = sym (statement_is text i span none here is) in
     let s : c.loop-span.player.table ≡ state_at rows text i = inv.table in
-    let there : i < length (statements_of text) = omega (arith, here, length-map (groups_of text) (λ span. statement_of (text_at text span))) in
-    let here_stops = subst (λ (f : ℕ). IsSynced mid f → EachStop mid new (InFile f (KeepsOrSaves (saved_by c.loop-span.player.table c.read_statement.result)))) inv.file (c.answer.ensures.stops t) in
-    let over_state = subst (λ (st : State). IsSynced mid file → EachStop mid new (InFile file (KeepsOrSaves (saved_by st c.read_statement.result)))) s here_stops in
+    let there : i < length (statements_of text) = omega (arith, here, length-map (spans_of text) (statement_at text)) in
+    let here_stops = subst (λ (f : ℕ). IsSynced mid f → EachStop mid new (InFile f (KeepsOrSaves (saved_by c.loop-span.player.table (statement_at text span))))) inv.file (c.answer_at.ensures.stops t) in
+    let over_state = subst (λ (st : State). IsSynced mid file → EachStop mid new (InFile file (KeepsOrSaves (saved_by st (statement_at text span))))) s here_stops in
     let call_stops = subst (λ (st : Statement). IsSynced mid file → EachStop mid new (InFile file (KeepsOrSaves (saved_by (state_at rows text i) st)))) q over_state in
     let stopped : KeepsCommits entry new file rows (history_of rows text i) c.loop-span.player.moments.items (cut_of (Some c.in-Err.reason) rows text i) =
     keeps_stopped entry mid new file rows text i c.loop-span.player.moments.items c.in-Err.reason there (at_statements rows (take i (statements_of text))) (inv.synced t begun) (inv.session.kept t refl)
     (call_stops (inv.synced t begun)) (inv.stops t begun) inv.session.order inv.session.commits
-    (λ memory. subst (λ d. KeepsAll entry (g.D.Disk.told d) file rows (history_of rows text i) c.loop-span.player.moments.items) (sym (c.answer.ensures.memory (c.in-Err.is ∙ ap Err memory))) (inv.stops t begun))
-    (λ fault none_saved. c.answer.ensures.fault (c.in-Err.is ∙ ap Err fault) ((λ j. saved_by (s j) (q j)) ∙ none_saved)) in
-    subst (λ (n : ℕ). KeepsCommits entry new file rows (history_of rows text n) c.answer.new.self.moments.items (cut_of (Some c.in-Err.reason) rows text n)) (sym inv.entries.count)
+    (λ memory. subst (λ d. KeepsAll entry (g.D.Disk.told d) file rows (history_of rows text i) c.loop-span.player.moments.items) (sym (c.answer_at.ensures.memory (c.in-Err.is ∙ ap Err memory))) (inv.stops t begun))
+    (λ fault none_saved. c.answer_at.ensures.fault (c.in-Err.is ∙ ap Err fault) ((λ j. saved_by (s j) (q j)) ∙ none_saved)) in
+    subst (λ (n : ℕ). KeepsCommits entry new file rows (history_of rows text n) c.answer_at.new.player.moments.items (cut_of (Some c.in-Err.reason) rows text n)) (sym inv.entries.count)
     (subst (λ (m : List ℕ). KeepsCommits entry new file rows (history_of rows text i) m (cut_of (Some c.in-Err.reason) rows text i)) (sym (ap (λ r. r.items) c.in-Err.ensures.moments_stay)) stopped)
 
 pub returns-clause-stops : goal.returns-clause-stops
@@ -125,15 +126,15 @@ returns-in-Err-clause-session g c =
     let inv = c.loop-span.invariant in
     let entry = g.D.Disk.told c.args.disk.now in
     let mid = g.D.Disk.told c.loop-span.disk in
-    let new = g.D.Disk.told c.answer.new.disk in
+    let new = g.D.Disk.told c.answer_at.new.disk in
     let rows = c.args.player.now.table.rows in
     let text = c.args.script.now in
     let reason = c.in-Err.reason in
     let file = file_of c.args.player.now.log in
     let tells = g.D.Disk.tells_content in
-    subst (λ (n : ℕ). IsSession tells entry new file rows text n (Some reason) c.answer.new.self.moments.items) (sym inv.entries.count)
-    (stops_here tells entry mid new file rows text c.loop-span.span-index reason _ c.loop-span.player.moments.items c.answer.new.self.moments.items inv.session inv.later c.answer.ensures.cause
+    subst (λ (n : ℕ). IsSession tells entry new file rows text n (Some reason) c.answer_at.new.player.moments.items) (sym inv.entries.count)
+    (stops_here tells entry mid new file rows text c.loop-span.span-index reason _ c.loop-span.player.moments.items c.answer_at.new.player.moments.items inv.session inv.later c.answer_at.ensures.cause
     (λ fault. c.in-Err.is ∙ ap Err fault)
-    (λ memory. ap (λ d. (g.D.Disk.told d).moment) (c.answer.ensures.memory (c.in-Err.is ∙ ap Err memory)))
-    (subst (λ (f : ℕ). SameOthers f mid.content new.content) inv.file c.answer.ensures.others)
+    (λ memory. ap (λ d. (g.D.Disk.told d).moment) (c.answer_at.ensures.memory (c.in-Err.is ∙ ap Err memory)))
+    (subst (λ (f : ℕ). SameOthers f mid.content new.content) inv.file c.answer_at.ensures.others)
     (ap (λ r. r.items) c.in-Err.ensures.moments_stay))

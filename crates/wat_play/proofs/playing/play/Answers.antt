@@ -1,9 +1,9 @@
 use Rattle.std.proofs.Common.{◌≡◌, ℕ, List, length, drop, ℤ, sym, ◌∙◌, ap, subst}
 use Rattle.std.proofs.lemmas.List.{take_rest}
-use Rattle.wat_conn.specs.declared.script.Span.{Span}
+use Rattle.wat_parse.specs.declared.script.Span.{Span}
 use Rattle.wat_disk.specs.Disk.{IsSynced, SameFiles, EachStop}
 use Rattle.wat_disk.proofs.Stops.{none_same}
-use Rattle.wat_onetable.specs.Cut.{groups_of}
+use Rattle.wat_parse.specs.Statements.{statements_of as spans_of}
 use Rattle.wat_onetable.specs.Table.{State}
 use Rattle.wat_onetable.specs.History.{history_of, rows_after}
 use Rattle.wat_rowlog.specs.Logged.{Restarts}
@@ -28,7 +28,7 @@ returns-clause-fits g c =
     let stop = c.answer_until_stop-stop.result in
     let entries = c.answer_until_stop-stop.new.entries.items in
     let answered : IsAnswered rows text stop entries = subst (λ (r : List (ℤ × ℤ)). IsAnswered r text stop entries) (ap (λ (s : State). s.rows) c.new.ensures) c.answer_until_stop-stop.ensures.answered in
-    let spans : c.as_slice-spans.result.now ≡ groups_of text = c.as_slice-spans.ensures ∙ c.in_ok-spans.ensures.spans in
+    let spans : c.as_slice-spans.result.now ≡ spans_of text = c.as_slice-spans.ensures ∙ c.in_ok-spans.ensures in
     fits rows text stop entries c.into_items.result _ answered (c.into_items.ensures ∙ c.push_unanswered.ensures) (take_rest c.as_slice-spans.result.now c.len.result ∙ ap (λ (n : ℕ). drop n c.as_slice-spans.result.now) c.len.ensures ∙ ap (λ (l : List Span). drop (length entries) l) spans)
 
 pub returns-clause-commits : goal.returns-clause-commits
