@@ -93,3 +93,13 @@ each_at P (y ∷ ys) x (suc k) h lt e = each_at P ys x k h.1 (omega arith) e
 
 pub is_span : (text : List ℕ) (span : Span) → Contains (statements_of text) span → IsSpan text span
 is_span text span k = each_at (IsSpan text) (statements_of text) span k.0 (are_spans text) k.1 k.2
+
+-- ---- the span at an index is one of them
+
+got_any : (xs : List Span) (n : ℕ) (d e : Span) → n < length xs → slice_index_or xs n d ≡ slice_index_or xs n e
+got_any [] n d e lt = absurd (omega arith)
+got_any (x ∷ xs) zero d e lt = refl
+got_any (x ∷ xs) (suc n) d e lt = got_any xs n d e (omega arith)
+
+pub got : (xs : List Span) (n : ℕ) (d : Span) → n < length xs → Contains xs (slice_index_or xs n d)
+got xs n d lt = (n, lt, got_any xs n (slice_index_or xs n d) d lt)

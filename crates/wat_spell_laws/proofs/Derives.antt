@@ -264,9 +264,34 @@ in_list_spelled negated y x ss xs h hs (suc d) b = tested (suc d) (placed 4 y).t
 count_all_spelled : IsSpelled (spelled_at (Expr-F.Aggregate aggregate.Count None)) (e.Aggregate aggregate.Count None)
 unfolding primary count count_argument
 count_all_spelled zero b = absurd (omega arith)
-count_all_spelled (suc d) b = inr (inr (inr (inr (inr (inl (suc_not_zero d, (None, ((tt, None), (sign k.Count ∷ [], sign k.Open ∷ sign k.Star ∷ sign k.Close ∷ [], refl, (sign k.Count, refl, refl, refl),
-    ((tt, None), (sign k.Open ∷ [], sign k.Star ∷ sign k.Close ∷ [], refl, (sign k.Open, refl, refl, refl),
-      ((None, tt), (sign k.Star ∷ [], sign k.Close ∷ [], refl, inl (tt, (sign k.Star, refl, refl, refl), refl), (sign k.Close, refl, refl, refl)), refl)), refl)), refl), refl)))))))
+count_all_spelled (suc d) b = inr (inr (inr (inr (inr (inl (
+  suc_not_zero d,
+  (
+    None,
+    (
+      (tt, None),
+      (
+        sign k.Count ∷ [],
+        sign k.Open ∷ sign k.Star ∷ sign k.Close ∷ [],
+        refl,
+        (sign k.Count, refl, refl, refl),
+        (
+          (tt, None),
+          (
+            sign k.Open ∷ [],
+            sign k.Star ∷ sign k.Close ∷ [],
+            refl,
+            (sign k.Open, refl, refl, refl),
+            ((None, tt), (sign k.Star ∷ [], sign k.Close ∷ [], refl, inl (tt, (sign k.Star, refl, refl, refl), refl), (sign k.Close, refl, refl, refl)), refl),
+          ),
+          refl,
+        ),
+      ),
+      refl,
+    ),
+    refl,
+  ),
+))))))
 
 aggregated_by : (d : ℕ) (kind : AggregateKind) (t : Lexeme) (ts : List Token) (x : Expr) → DerivesWithin sql (suc d) aggregate_word (t ∷ []) kind → DerivesWithin sql d expression (token_lexemes ts) x
     → DerivesWithin sql (suc d) primary (t ∷ token_lexemes (symbol s.OpenTight ∷ (ts ++ symbol s.Close ∷ []))) (e.Aggregate kind (Some x))
@@ -293,8 +318,24 @@ counted_by : (d : ℕ) (ts : List Token) (x : Expr) → DerivesWithin sql d expr
 unfolding primary count count_argument
 counted_by d ts x h =
     let behind : List Lexeme = token_lexemes (ts ++ symbol s.Close ∷ []) in
-    inr (inr (inr (inr (inr (inl (suc_not_zero d, (Some x, ((tt, Some x), (sign k.Count ∷ [], sign k.Open ∷ behind, refl, (sign k.Count, refl, refl, refl),
-    ((tt, Some x), (sign k.Open ∷ [], behind, refl, (sign k.Open, refl, refl, refl), ((Some x, tt), (token_lexemes ts, sign k.Close ∷ [], lexemes_append ts (symbol s.Close ∷ []), inr (x, h, refl), (sign k.Close, refl, refl, refl)), refl)), refl)), refl), refl)))))))
+    inr (inr (inr (inr (inr (inl (
+      suc_not_zero d,
+      (
+        Some x,
+        (
+          (tt, Some x),
+          (
+            sign k.Count ∷ [],
+            sign k.Open ∷ behind,
+            refl,
+            (sign k.Count, refl, refl, refl),
+            ((tt, Some x), (sign k.Open ∷ [], behind, refl, (sign k.Open, refl, refl, refl), ((Some x, tt), (token_lexemes ts, sign k.Close ∷ [], lexemes_append ts (symbol s.Close ∷ []), inr (x, h, refl), (sign k.Close, refl, refl, refl)), refl)), refl),
+          ),
+          refl,
+        ),
+        refl,
+      ),
+    ))))))
 
 aggregate_spelled : (kind : AggregateKind) (y : Spelling) (x : Expr) → IsSpelled y x → IsSpelled (spelled_at (Expr-F.Aggregate kind (Some y))) (e.Aggregate kind (Some x))
 unfolding aggregate_word

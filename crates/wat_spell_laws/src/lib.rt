@@ -35,3 +35,6 @@ pub fn statements_are_read_back()
     ensures levels { (levels : ℕ) (text : List ℕ) (ts : List Token) (x : Statement)
         → DerivesWithin sql levels statement (lexemes_of text ts) x → DerivesWithin sql levels statement (spelled_lexemes x) x }
 {}
+
+#[cfg(test)]
+mod tests;

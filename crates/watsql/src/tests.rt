@@ -28,7 +28,8 @@ const REFUSALS_TEXT: &str =
     "connection 1\n1: error Duplicate (2)\n2: error OutOfRange v\n3: committed 1\n4: unsupported\ncommits 1\n";
 
 /// What of the language is served is a matter of the tree.
-const TREES: &str = "insert t values ((2), - 5); INSERT INTO t (k, v) VALUES (1, 2); INSERT INTO t VALUES (1); INSERT INTO t VALUES (1, 1 + 1); \
+const TREES: &str =
+    "insert t values ((2), - 5); INSERT INTO t (k, v) VALUES (1, 2); INSERT INTO t VALUES (1); INSERT INTO t VALUES (1, 1 + 1); \
     INSERT INTO u VALUES (1, 2); SELECT * FROM t x; SELECT DISTINCT * FROM t; SELECT * FROM t WHERE k = 2; ROLLBACK; select * from T;";
 
 const TREES_TEXT: &str =
