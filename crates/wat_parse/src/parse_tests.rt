@@ -143,6 +143,13 @@ fn check(
     Ok(())
 }
 
+fn check_all(rt: &(impl Abort + Alloc<A = Global>), rows: &[(&str, Wanted)]) -> Result<(), Fail> {
+    for (text, wanted) in rows {
+        check(rt, *text, 0, wanted)?;
+    }
+    Ok(())
+}
+
 #[test]
 fn statements_right_and_wrong(rt: HostRuntime) -> Result<(), Fail> {
     let rows = [
@@ -298,9 +305,7 @@ fn statements_right_and_wrong(rt: HostRuntime) -> Result<(), Fail> {
         ("SET OPTION BLOCKING = ON", At(4)),
         ("k", At(0)),
     ];
-    for (text, wanted) in &rows {
-        check(&rt, text, 0, wanted)?;
-    }
+    check_all(&rt, &rows)?;
     check(&rt, "COMMIT; SELECT", 1, &At(14))?;
     check(&rt, "COMMIT; DELETE FROM t; CHECKPOINT x", 2, &At(34))?;
     check(&rt, "x; COMMIT ;", 1, &Tree("commit", &[]))
