@@ -27,11 +27,11 @@ many_sound g ks p P h zero ts xs r e = let d = ok_parts _ _ _ _ e in ([], d.1, s
 many_sound g ks p P h (suc n) ts xs r e = elim (chosen (sees g ks ts) _ _ _ e) [
   | inl c ↦ (
       let o = bind_ok (p ts) _ _ c.1 in
-      let o2 = bind_ok (read_many g ks p n o.1) _ _ o.3 in
+      let second = bind_ok (read_many g ks p n o.1) _ _ o.3 in
       let t = h ts o.0 o.1 o.2 in
-      let t2 = many_sound g ks p P h n o.1 o2.0 o2.1 o2.2 in
-      let d = ok_parts _ _ _ _ o2.3 in
-      (t.0 ++ t2.0, rest_of ts t.0 o.1 t2.0 o2.1 r t.1 t2.1 d.1, subst (Repeats P (t.0 ++ t2.0)) d.0 (t.0, t2.0, refl, t.2, t2.2)))
+      let behind = many_sound g ks p P h n o.1 second.0 second.1 second.2 in
+      let d = ok_parts _ _ _ _ second.3 in
+      (t.0 ++ behind.0, rest_of ts t.0 o.1 behind.0 second.1 r t.1 behind.1 d.1, subst (Repeats P (t.0 ++ behind.0)) d.0 (t.0, behind.0, refl, t.2, behind.2)))
   | inr c ↦ (let d = ok_parts _ _ _ _ c.1 in ([], d.1, subst (Repeats P []) d.0 refl))
 ]
 
@@ -44,13 +44,13 @@ module _ {K X N E : Type 0} (g : Grammar K X N E) (same_true : (a b : K) → g.s
   sound (empty b) ts a r e = let d = ok_parts _ _ _ _ e in ([], d.1, (refl, sym d.0))
   sound (seq p q) ts a r e =
       let o = bind_ok (read g levels inside p ts) _ _ e in
-      let o2 = bind_ok (read g levels inside q o.1) _ _ o.3 in
+      let second = bind_ok (read g levels inside q o.1) _ _ o.3 in
       let t = sound p ts o.0 o.1 o.2 in
-      let t2 = sound q o.1 o2.0 o2.1 o2.2 in
-      let d = ok_parts _ _ _ _ o2.3 in (
-        t.0 ++ t2.0,
-        rest_of ts t.0 o.1 t2.0 o2.1 r t.1 t2.1 d.1,
-        subst (Derives g levels Inside (seq p q) (t.0 ++ t2.0)) d.0 (t.0, t2.0, refl, t.2, t2.2),
+      let behind = sound q o.1 second.0 second.1 second.2 in
+      let d = ok_parts _ _ _ _ second.3 in (
+        t.0 ++ behind.0,
+        rest_of ts t.0 o.1 behind.0 second.1 r t.1 behind.1 d.1,
+        subst (Derives g levels Inside (seq p q) (t.0 ++ behind.0)) d.0 (t.0, behind.0, refl, t.2, behind.2),
       )
   sound (or p q) ts a r e = elim (chosen (sees g (first g p) ts) _ _ _ e) [
     | inl c ↦ (let t = sound p ts a r c.1 in (t.0, t.1, inl t.2))
