@@ -11,6 +11,6 @@ returns-then-not-can_call-clause-counts c =
       moment = c.fail.ensures.moment;
       never_falls = c.fail.ensures.never_falls;
       failed = λ is. c.fail.ensures.rose;
-      past = λ is. cc;
+      kept = λ not. absurd (not failed);
       last = λ end. (failed, c.fail.ensures.content);
     }
