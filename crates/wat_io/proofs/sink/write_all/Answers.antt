@@ -11,5 +11,5 @@ loop-from-preserved g c =
     record {
       within = omega (arith, count, length-drop {A = ℕ});
       taken = rw take-add (Appends-trans _ _ _ _ _ c.loop-from.invariant.taken taken);
-      later = search rules;
+      kept = search rules;
     }
