@@ -1,6 +1,6 @@
 // A gate log: open gates with their frames, and a closed gate behind them. A frame is written behind the closed gate
 // and synced, and then the gate is opened by a write of its own, and synced.
-ghost use Rattle.std.specs.Prelude.{◌≡◌, ◌+◌, ◌<◌, ◌≤◌, ◌^◌, ◌⊎◌, [], ◌∷◌, ◌++◌, take, drop, slice_index, slice_range, length, OnOk, OnErr, IfOk, IfErr, MatchOption, IsErr};
+ghost use Rattle.std.specs.Prelude.{◌≡◌, ◌↔◌, ◌+◌, ◌<◌, ◌≤◌, ◌^◌, ◌⊎◌, [], ◌∷◌, ◌++◌, take, drop, slice_index, slice_range, length, OnOk, OnErr, IfOk, IfErr, MatchOption, IsErr};
 ghost use Rattle.wat_disk.specs.Disk.{IsSynced, InFile, SameFiles, SameOthers, EachStop, HasCause};
 ghost use Rattle.wat_gate.specs.Bodies.{KeepsOrAdds, KeepsOrClears, IsBrokenAt, gate_place, IsClosedGate, IsOpenGate, IsBrokenGate};
 ghost use Rattle.std.specs.Int.{w32, from_be_bytes};
@@ -226,7 +226,7 @@ impl GateLog {
 }
 
 fn refusal(error: DiskError, at: u64) -> GateRefusal
-    ensures fault { result ≡ GateRefusal.DiskFault → error ≡ DiskError.Failed }
+    ensures fault { result ≡ GateRefusal.DiskFault ↔ error ≡ DiskError.Failed }
     ensures past { IfDamaged result (λ place. error ≡ DiskError.Past) }
 {
     match error {

@@ -44,5 +44,6 @@ loop-passed-preserved g c =
         later = omega (arith, i.cause.later, c.next_gate.ensures.cause.later);
         never_falls = omega (arith, i.cause.never_falls, c.next_gate.ensures.cause.never_falls);
         rose = λ never. absurd never;
+        kept = λ well. c.in_ok-next.ensures.cause.kept (λ e. cc) ∙ i.cause.kept well;
       };
     }
