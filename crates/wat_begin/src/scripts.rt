@@ -1,4 +1,4 @@
-ghost use Rattle.std.specs.Prelude.{◌≡◌, ◌≤◌, ◌<◌, length, List, map, string_bytes, IfSome, IfNone};
+ghost use Rattle.std.specs.Prelude.{◌≡◌, ◌≢◌, ◌≤◌, ◌<◌, ℕ, length, List, map, string_bytes, IfSome, IfNone};
 ghost use Rattle.std.specs.Str.{IsUtf8};
 ghost use Rattle.std.specs.Str.Lossy.{utf8_valid_len};
 ghost use Rattle.wat_io.specs.Faults.{Rose};
@@ -36,6 +36,7 @@ fn read_script<L: Scripts>(
         × UnlessMemory result (result ≡ script_of number reading) }
     ensures texts { L.texts scripts.new ≡ L.texts scripts.old }
     ensures faults { L.faults scripts.old ≤ L.faults scripts.new }
+    ensures kept { result ≢ Err (Fault.CannotRead number) → L.faults scripts.new ≡ L.faults scripts.old }
 {
     let mut bytes = Vec::new(alloc);
     match scripts.read(name, SCRIPT_LIMIT + 1, &mut bytes) {
@@ -65,6 +66,8 @@ pub fn read_scripts<L: Scripts>(
         × UnlessMemory result (result ≡ scripts_of 1 readings) }
     ensures texts { L.texts scripts.new ≡ L.texts scripts.old }
     ensures faults { L.faults scripts.old ≤ L.faults scripts.new }
+    // No fault is counted, unless the answer is that a script can't be read.
+    ensures kept { ((i : ℕ) → result ≢ Err (Fault.CannotRead i)) → L.faults scripts.new ≡ L.faults scripts.old }
 {
     let mut texts = ScriptList::new(alloc);
     for (i, name) in names.iter().enumerate() {

@@ -1,9 +1,9 @@
 //! Making a database in a folder that has none.
 #![tactic(auto)]
 
-ghost use Rattle.std.specs.Prelude.{◌≡◌, ◌≢◌, ◌≤◌, [], ◌∷◌, OnOk, OnErr};
+ghost use Rattle.std.specs.Prelude.{◌≡◌, ◌≢◌, [], ◌∷◌, OnOk, OnErr};
 ghost use Rattle.wat_disk.specs.Bytes.{Torn};
-ghost use Rattle.wat_disk.specs.Disk.{EachLeft, EachStop, InFile, Rose, SameFiles, SameOthers};
+ghost use Rattle.wat_disk.specs.Disk.{EachLeft, EachStop, HasCause, InFile, Rose, SameFiles, SameOthers};
 ghost use Rattle.wat_rowlog.specs.Logged.{Restarts};
 ghost use Rattle.wat_init.specs.Making.{MayMake};
 
@@ -23,6 +23,7 @@ pub enum InitRefusal {
 /// Why the length of the log was not told.
 fn refusal_of(error: DiskError) -> InitRefusal
     ensures fault { result ≡ InitRefusal.DiskFault → error ≢ DiskError.Memory }
+    ensures failed { error ≡ DiskError.Failed → result ≡ InitRefusal.DiskFault }
     ensures other { result ≢ InitRefusal.Exists }
 {
     match error {
@@ -46,7 +47,7 @@ pub fn init<D: Disk>(disk: &mut D) -> Result<(), InitRefusal>
     // A stop at any moment of the call leaves nothing else changed than the log's first byte, and a refusal that is no disk fault nothing.
     ensures stops { EachStop (D.told disk.old) (D.told disk.new) (InFile LOG.0 (Torn 0 1)) }
     ensures unchanged_stops { result ≢ Err InitRefusal.DiskFault → OnErr result (EachStop (D.told disk.old) (D.told disk.new) SameFiles) }
-    ensures never_falls { (D.told disk.old).faults ≤ (D.told disk.new).faults }
+    ensures cause { HasCause (D.told disk.old) (D.told disk.new) (result ≡ Err InitRefusal.DiskFault) }
 {
     match disk.length(LOG) {
         Ok(0) => {}

@@ -1,5 +1,5 @@
 -- What a refusal of the gate log, or of reading its frames, says of opening.
-use Rattle.std.proofs.Common.{◌≡◌, ◌≢◌, ⊎_elim, ℕ, ◌+◌, ◌-◌, ◌^◌, ◌≤◌, min, List, [], length, get_or, Result, Err, ℤ, refl, sym, subst, arith}
+use Rattle.std.proofs.Common.{◌≡◌, ◌≢◌, ⊎_elim, ℕ, ◌+◌, ◌-◌, ◌^◌, ◌≤◌, min, List, [], length, get_or, Result, Err, ℤ, refl, sym, ◌∙◌, ap, subst, arith}
 use Rattle.wat_disk.specs.Disk.{Told, Rose}
 use Rattle.wat_gate.specs.declared.gate_log.GateRefusal.{GateRefusal}
 use Rattle.wat_gate.specs.declared.gate_log.GateRefusal.TheVariants as gate
@@ -16,6 +16,13 @@ pub fault_from : (refusal : GateRefusal) → why_from refusal ≡ DiskFault → 
 fault_from gate.DiskFault e = refl
 fault_from (gate.Damaged at) e = cc
 fault_from gate.Memory e = cc
+
+-- a fault is handed on as one
+pub fault_to : {T U : Type 0} (refusal : GateRefusal) (answer : Result T GateRefusal) (why : OpenWhy) → Err refusal ≡ answer → why ≡ why_from refusal
+    → (◌≡◌ {A = Result U OpenWhy} (Err why) (Err DiskFault) → ⊥) → answer ≡ Err gate.DiskFault → ⊥
+fault_to refusal answer why is from well e =
+    let same : refusal ≡ gate.DiskFault = cc in
+    well (ap Err (from ∙ ap why_from same))
 
 -- a gate log that is broken at a gate isn't whole
 pub broken_no_rows : (content : List ℕ) (at : ℕ) → IsBrokenAt content at → (rows : List (ℤ × ℤ)) → Restarts content rows → ⊥

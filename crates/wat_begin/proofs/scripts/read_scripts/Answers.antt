@@ -34,4 +34,5 @@ loop-i-preserved g c =
       read = rw pushed (text_here _ _ _ _ _ _ _ so_far.0 _ _ c.in-Ok.ensures.read.0 c.in-Ok.text whole c.loop-i.invariant.faults c.in-Ok.ensures.faults so_far.1 so_far.2 (number c.loop-i.i names within) here c.in-Ok.ensures.read.2);
       texts = search rules;
       faults = search rules;
+      kept = search rules;
     }

@@ -11,5 +11,6 @@ invariant-loop-i g l =
     record {
       read : (rs : List Reading) × AreReadings (told l.fn.scripts) (Rose (faults l.fn.scripts) (faults l.scripts)) (map string_bytes (take l.i l.names)) rs × (scripts_of 1 rs ≡ Ok l.texts);
       texts : told l.scripts ≡ told l.fn.scripts;
+      kept : faults l.scripts ≡ faults l.fn.scripts;
       faults : faults l.fn.scripts ≤ faults l.scripts;
     }

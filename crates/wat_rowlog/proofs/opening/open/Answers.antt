@@ -7,7 +7,7 @@ use Rattle.wat_gate.specs.Refusal.{IfDamaged}
 use Rattle.wat_rowlog.specs.declared.opening.OpenWhy.{OpenWhy}
 use Rattle.wat_rowlog.specs.declared.opening.OpenWhy.TheVariants.{DiskFault}
 use Rattle.wat_rowlog.specs.Opening.{MayOpen}
-use Rattle.wat_rowlog.proofs.Refused.{fault_from, opening_refused, opening_of, refused_later, rose_since, same_why}
+use Rattle.wat_rowlog.proofs.Refused.{fault_from, fault_to, opening_refused, opening_of, refused_later, rose_since, same_why}
 use Rattle.wat_rowlog.proofs.opening.open.Goals as goal
 
 pub returns-in-Err-open-clause-answer : goal.returns-in-Err-open-clause-answer
@@ -36,6 +36,8 @@ returns-in-Err-open-clause-cause g c =
       never_falls = omega (arith, c.length.ensures.counts.never_falls, c.open.ensures.cause.never_falls);
       rose = λ e. rose_since old mid new c.length.ensures.counts.never_falls
           (c.open.ensures.cause.rose (c.in-Err-open.is ∙ ap Err (fault_from c.in-Err-open.refusal (sym c.why_of.ensures ∙ same_why c.why_of.result DiskFault e))));
+      kept = λ well. c.open.ensures.cause.kept (fault_to c.in-Err-open.refusal _ c.why_of.result (sym c.in-Err-open.is) c.why_of.ensures well)
+          ∙ c.length.ensures.counts.kept (λ e. let ok = c.in-Ok.is in cc);
     }
 
 pub returns-in-Ok-read_rows-clause-stops : goal.returns-in-Ok-read_rows-clause-stops

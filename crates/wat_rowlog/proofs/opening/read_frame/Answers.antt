@@ -6,7 +6,7 @@ use Rattle.wat_rowlog.specs.declared.opening.OpenWhy.TheVariants.{DiskFault}
 use Rattle.wat_rowlog.specs.Opening.{MayRefuse}
 use Rattle.wat_rowlog.specs.Reading.{ReadsBody, ReadsBodies, IsNoBody}
 use Rattle.wat_rowlog.proofs.Bodies.{body_read, body_refused, no_rows, on_true, on_false}
-use Rattle.wat_rowlog.proofs.Refused.{fault_from, reading_refused, same_why}
+use Rattle.wat_rowlog.proofs.Refused.{fault_from, fault_to, reading_refused, same_why}
 use Rattle.wat_rowlog.proofs.opening.read_frame.Goals as goal
 
 pub returns-in-Err-clause-refused : goal.returns-in-Err-clause-refused
@@ -24,6 +24,7 @@ returns-in-Err-clause-cause g c = record {
   later = c.frame_at.ensures.cause.later;
   never_falls = c.frame_at.ensures.cause.never_falls;
   rose = λ e. c.frame_at.ensures.cause.rose (c.in-Err.is ∙ ap Err (fault_from c.in-Err.refusal (sym c.why_of.ensures ∙ same_why c.why_of.result DiskFault e)));
+  kept = λ well. c.frame_at.ensures.cause.kept (fault_to c.in-Err.refusal _ c.why_of.result (sym c.in-Err.is) c.why_of.ensures well);
 }
 
 pub returns-in-Ok-true-clause-read : goal.returns-in-Ok-true-clause-read

@@ -18,7 +18,7 @@ loop-place-init g c = record {
   within = omega arith;
   content = λ f. refl;
   stops = none_same (g.D.Disk.told c.args.disk.now);
-  cause = record { later = omega arith; never_falls = omega arith; rose = λ never. absurd never };
+  cause = record { later = omega arith; never_falls = omega arith; rose = λ never. absurd never; kept = λ well. refl };
 }
 
 pub returns-in-Err-clause-refused : goal.returns-in-Err-clause-refused
@@ -48,6 +48,7 @@ loop-place-preserved g c =
         later = omega (arith, i.cause.later, read.cause.later);
         never_falls = omega (arith, i.cause.never_falls, read.cause.never_falls);
         rose = λ never. absurd never;
+        kept = λ well. read.cause.kept (λ e. let ok = c.in-Ok.is in cc) ∙ i.cause.kept well;
       };
     }
 
