@@ -145,16 +145,17 @@ begins tells entry file rows text restarts = record {
   calls = λ well. refl;
   disk_fault = λ none. cc;
   never_falls = omega arith;
+  faults_stay = λ well. refl;
   kept = λ t none. restarts t;
   others = λ other not_it. refl;
 }
 
 pub goes_on : (tells : Type 0) (entry mid new : Told) (file : ℕ) (rows : List (ℤ × ℤ)) (text : List ℕ) (i : ℕ) (failed : Type 0) (moments new_moments : List ℕ) → i < length (spans_of text)
-    → IsSession tells entry mid file rows text i None moments → entry.moment ≤ mid.moment → HasCause mid new failed → SameOthers file mid.content new.content
+    → IsSession tells entry mid file rows text i None moments → entry.moment ≤ mid.moment → HasCause mid new failed → (failed → ⊥) → SameOthers file mid.content new.content
     → new_moments ≡ moments ++ map (λ _. new.moment) (committed_by (state_at rows text i) (at_place text i))
     → (tells → IsWhole (new.content file)) → (tells → bodies (new.content file) ≡ bodies (mid.content file) ++ map body_of (saved_by (state_at rows text i) (at_place text i)))
     → (committed_by (state_at rows text i) (at_place text i) ≡ [] → new.moment ≡ mid.moment) → IsSession tells entry new file rows text (i + 1) None new_moments
-goes_on tells entry mid new file rows text i failed moments new_moments here old later cause others noted whole added quiet =
+goes_on tells entry mid new file rows text i failed moments new_moments here old later cause well others noted whole added quiet =
     let q = at_place text i in
     let s = state_at rows text i in
     let h = history_of rows text i in
@@ -166,6 +167,7 @@ goes_on tells entry mid new file rows text i failed moments new_moments here old
       calls = λ well. last_more entry.moment mid.moment new.moment moments (committed_by s q) (length-committed s q) (old.calls (λ fault. cc)) quiet ∙ ap (last_moment entry.moment) (sym noted);
       disk_fault = λ none. cc;
       never_falls = omega (arith, old.never_falls, cause.never_falls);
+      faults_stay = λ none. cause.kept well ∙ old.faults_stay (λ fault. cc);
       kept = λ t none. subst (λ (l : List (List (ℤ × ℤ))). Restarts (new.content file) (rows_after rows l)) (sym more)
           (restarts_more rows h s q (mid.content file) (new.content file) (at_statements rows (take i (statements_of text))) (old.kept t refl) (whole t) (added t));
       others = λ other not_it. others other not_it ∙ old.others other not_it;
@@ -182,14 +184,15 @@ rose_later : (entry mid new : Told) → entry.faults ≤ mid.faults → Rose mid
 rose_later entry mid new first then = omega (arith, first, then)
 
 pub stops_here : (tells : Type 0) (entry mid new : Told) (file : ℕ) (rows : List (ℤ × ℤ)) (text : List ℕ) (i : ℕ) (reason : Reason) (failed : Type 0) (moments new_moments : List ℕ)
-    → IsSession tells entry mid file rows text i None moments → entry.moment ≤ mid.moment → HasCause mid new failed → (reason ≡ DiskFault → failed) → (reason ≡ Memory → new.moment ≡ mid.moment) → SameOthers file mid.content new.content → new_moments ≡ moments
+    → IsSession tells entry mid file rows text i None moments → entry.moment ≤ mid.moment → HasCause mid new failed → (reason ≡ DiskFault → failed) → (failed → reason ≡ DiskFault) → (reason ≡ Memory → new.moment ≡ mid.moment) → SameOthers file mid.content new.content → new_moments ≡ moments
     → IsSession tells entry new file rows text i (Some reason) new_moments
-stops_here tells entry mid new file rows text i reason failed moments new_moments old later cause is_failed memory others same = record {
+stops_here tells entry mid new file rows text i reason failed moments new_moments old later cause is_failed is_fault memory others same = record {
   commits = ap length same ∙ old.commits;
   order = subst (AreMoments entry.moment new.moment) (sym same) (moments_later entry.moment mid.moment new.moment moments cause.later old.order);
   calls = λ well. memory (other_reason reason well) ∙ old.calls (λ fault. cc) ∙ ap (last_moment entry.moment) (sym same);
   disk_fault = λ fault. rose_later entry mid new old.never_falls (cause.rose (is_failed (some_is reason DiskFault fault)));
   never_falls = omega (arith, old.never_falls, cause.never_falls);
+  faults_stay = λ well. cause.kept (λ fails. well (ap Some (is_fault fails))) ∙ old.faults_stay (λ fault. cc);
   kept = λ t none. cc;
   others = λ other not_it. others other not_it ∙ old.others other not_it;
 }

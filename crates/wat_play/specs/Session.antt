@@ -36,5 +36,6 @@ pub record IsSession (tells : Type 0) (entry now : Told) (file : ℕ) (rows : Li
   pub calls : stop ≢ Some DiskFault → now.moment ≡ last_moment entry.moment moments
   pub disk_fault : stop ≡ Some DiskFault → Rose entry now
   pub never_falls : entry.faults ≤ now.faults
+  pub faults_stay : stop ≢ Some DiskFault → now.faults ≡ entry.faults
   pub kept : tells → stop ≡ None → Restarts (now.content file) (rows_after rows (history_of rows text answered))
   pub others : SameOthers file entry.content now.content

@@ -164,6 +164,7 @@ pub fn play<D: Disk>(
     ensures calls { IfOk result (λ played. played.stop ≢ Some Reason.DiskFault → (D.told disk.new).moment ≡ last_moment (D.told disk.old).moment played.moments) }
     ensures disk_fault { IfOk result (λ played. played.stop ≡ Some Reason.DiskFault → Rose (D.told disk.old) (D.told disk.new)) }
     ensures never_falls { (D.told disk.old).faults ≤ (D.told disk.new).faults }
+    ensures faults_stay { IfOk result (λ played. played.stop ≢ Some Reason.DiskFault → (D.told disk.new).faults ≡ (D.told disk.old).faults) }
 
     // Where nothing stopped, restart gives the rows after all transactions.
     ensures kept { D.tells_content → IfOk result (λ played. played.stop ≡ None → Restarts ((D.told disk.new).content LOG.0)
@@ -178,6 +179,7 @@ pub fn play<D: Disk>(
 
     // Where no session began, nothing was written.
     ensures not_begun { OnErr result (SameFiles (D.told disk.old).content (D.told disk.new).content) }
+    ensures not_begun_faults { OnErr result ((D.told disk.new).faults ≡ (D.told disk.old).faults) }
     ensures not_begun_stops { OnErr result (EachStop (D.told disk.old) (D.told disk.new) SameFiles) }
 {
     let spans = statements(alloc, script)?;

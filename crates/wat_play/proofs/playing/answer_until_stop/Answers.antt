@@ -61,7 +61,7 @@ loop-span-preserved g c =
     let added : tells → bodies (new.content file) ≡ bodies (mid.content file) ++ map body_of (saved_by (state_at rows text i) (at_place text i)) = λ t.
     ap (λ (f : ℕ). bodies (new.content f)) (sym (c.answer_at.ensures.file ∙ inv.file)) ∙ c.in-Ok.ensures.saved t ∙ (λ j. bodies (mid.content (inv.file j)) ++ map body_of (saved_by (s j) (q j))) in
     let session : IsSession tells entry new file rows text (i + 1) None c.answer_at.new.player.moments.items =
-    goes_on tells entry mid new file rows text i _ c.loop-span.player.moments.items c.answer_at.new.player.moments.items here inv.session inv.later c.answer_at.ensures.cause
+    goes_on tells entry mid new file rows text i _ c.loop-span.player.moments.items c.answer_at.new.player.moments.items here inv.session inv.later c.answer_at.ensures.cause (λ e. let ok = c.in-Ok.is in cc)
     (subst (λ (f : ℕ). SameOthers f mid.content new.content) inv.file c.answer_at.ensures.others) noted whole added
     (λ none_committed. ap (λ d. (g.D.Disk.told d).moment) (c.answer_at.ensures.quiet ((λ j. committed_by (s j) (q j)) ∙ none_committed))) in
     record {
@@ -134,7 +134,7 @@ returns-in-Err-clause-session g c =
     let tells = g.D.Disk.tells_content in
     subst (λ (n : ℕ). IsSession tells entry new file rows text n (Some reason) c.answer_at.new.player.moments.items) (sym inv.entries.count)
     (stops_here tells entry mid new file rows text c.loop-span.span-index reason _ c.loop-span.player.moments.items c.answer_at.new.player.moments.items inv.session inv.later c.answer_at.ensures.cause
-    (λ fault. c.in-Err.is ∙ ap Err fault)
+    (λ fault. c.in-Err.is ∙ ap Err fault) (λ e. let err = c.in-Err.is in cc)
     (λ memory. ap (λ d. (g.D.Disk.told d).moment) (c.answer_at.ensures.memory (c.in-Err.is ∙ ap Err memory)))
     (subst (λ (f : ℕ). SameOthers f mid.content new.content) inv.file c.answer_at.ensures.others)
     (ap (λ r. r.items) c.in-Err.ensures.moments_stay))
