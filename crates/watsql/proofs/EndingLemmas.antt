@@ -27,7 +27,7 @@ use Rattle.wat_begin.proofs.ReadingLemmas.{is_text, UnlessMemory-map}
 use Rattle.watsql.specs.Called.{Begun, Making, Playing, called_for, made, opened, names_called, log_file}
 use Rattle.watsql.specs.declared.perform.Done.{Done}
 use Rattle.watsql.specs.declared.perform.Done.TheVariants.{Made, Played}
-use Rattle.watsql.specs.Ending.{Outside, Ends, Follows, IsMade, IsSession, IsUntouched, IsWell, HasText, Serves}
+use Rattle.watsql.specs.Ending.{Outside, Ends, Follows, IsMade, IsSession, IsUntouched, IsWell, HasText, MetDiskFault, Serves}
 use Rattle.watsql.specs.Reporting.{Reports, status_of, session_status, fault_status}
 use Rattle.watsql.proofs.CalledLemmas.{usage_only, opened_rows, MayOpen-later}
 use Rattle.watsql.proofs.SessionLemmas.{IsSession-earlier}
@@ -73,7 +73,7 @@ pub session_ends : (outside : Outside) (mid : Told) (words : List (List ℕ)) (m
     (session : Session) →
     command_of words ≡ Some Run → Ok texts ≡ scripts_of 1 readings → Ok rows ≡ opened opening →
     MayOpen outside.tells (outside.disk_before.content log_file) rose opening →
-    IsUntouched outside.disk_before mid → outside.disk_before.faults ≤ mid.faults →
+    IsUntouched outside.disk_before mid → mid.faults ≡ outside.disk_before.faults →
     IsSession outside.tells mid outside.disk texts rows session →
     Follows outside (called_for words making readings opening) (Ok (Played session))
 session_ends outside mid words making readings texts opening rows rose session is read opens may untouched faults has =
@@ -145,6 +145,21 @@ pub status_1_or_7 : (taken taken_now : Option (List ℕ)) (faults faults_now : �
 status_1_or_7 taken taken_now faults faults_now ended status reports either =
     let status_so = λ (e : Result Done Fault). status_of e reports.found reports.whole in
     ⊎_elim (λ (usage : ended ≡ Err Usage). inl (reports.is ∙ ap status_so usage)) (λ (memory : ended ≡ Err Memory). inr (reports.is ∙ ap status_so memory)) either
+
+met_status : (ended : Result Done Fault) (found whole : Bool) → MetDiskFault ended → status_of ended found whole ≡ 4
+met_status (Err fault) found whole met = ap fault_status met
+met_status (Ok Made) found whole met = absurd met
+met_status (Ok (Played session)) found whole met = ap (λ (stop : Option Reason). session_status stop found whole) met
+
+-- A fault of the disk ends with status 4.
+pub status_4 : (taken taken_now : Option (List ℕ)) (faults faults_now : ℕ) (ended : Result Done Fault) (status : ℕ) →
+    Reports taken taken_now faults faults_now ended status → MetDiskFault ended → status ≡ 4
+status_4 taken taken_now faults faults_now ended status reports met = reports.is ∙ met_status ended reports.found reports.whole met
+
+-- A script that can't be read ends with status 2.
+pub status_2 : (taken taken_now : Option (List ℕ)) (faults faults_now : ℕ) (ended : Result Done Fault) (status i : ℕ) →
+    Reports taken taken_now faults faults_now ended status → ended ≡ Err (CannotRead i) → status ≡ 2
+status_2 taken taken_now faults faults_now ended status i reports is = reports.is ∙ ap (λ (e : Result Done Fault). status_of e reports.found reports.whole) is
 
 -- Where each name has its text and no read failed, the scripts are those texts.
 texts_read : (texts : Texts) (rose : Type 0) (names : List (List ℕ)) (rs : List Reading) (i : ℕ) → All (HasText texts) names → AreReadings (Some texts) rose names rs → ¬ rose →

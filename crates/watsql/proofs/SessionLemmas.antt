@@ -54,7 +54,7 @@ module _ (before mid now : Told) (file : ℕ) (rows : List (ℤ × ℤ)) (transa
 
 -- A session after an opening that changed nothing is one since before it.
 pub IsSession-earlier : (tells : Type 0) (before mid now : Told) (texts : List (List ℕ)) (rows : List (ℤ × ℤ)) (session : Session) →
-    IsUntouched before mid → before.faults ≤ mid.faults → (tells → Restarts (before.content log_file) rows) →
+    IsUntouched before mid → mid.faults ≡ before.faults → (tells → Restarts (before.content log_file) rows) →
     IsSession tells mid now texts rows session → IsSession tells before now texts rows session
 IsSession-earlier tells before mid now texts rows session untouched faults restarts is = record {
   scripts = is.scripts;
@@ -64,6 +64,7 @@ IsSession-earlier tells before mid now texts rows session untouched faults resta
   one_transcript = is.one_transcript;
   fits = is.fits;
   disk_fault = λ stop. let rose = is.disk_fault stop in omega (arith, rose, faults);
+  faults_stay = λ well. is.faults_stay well ∙ faults;
   commits = is.commits;
   moments = record {
     ascending = is.moments.ascending;

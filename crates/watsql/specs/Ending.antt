@@ -46,6 +46,7 @@ pub record IsSession (tells : Type 0) (before now : Told) (texts : List (List �
   -- each statement has its answer over the rows, or the stop
   pub fits : Fits rows text session.stop (answered_of entries) entries
   pub disk_fault : session.stop ≡ Some DiskFault → Rose before now
+  pub faults_stay : session.stop ≢ Some DiskFault → now.faults ≡ before.faults
   -- each commit has its moment
   pub commits : length session.moments ≡ length (history_of rows text (answered_of entries))
   pub moments : AreMoments before.moment now.moment session.moments
@@ -88,6 +89,12 @@ abbrev pub ended : Result Command Fault → Session → Result Done Fault
 ended (Err fault) session = Err fault
 ended (Ok Init) session = Ok Made
 ended (Ok Run) session = Ok (Played session)
+
+-- the call met a fault of the disk
+abbrev pub MetDiskFault : Result Done Fault → Type 0
+MetDiskFault (Err fault) = fault ≡ why.DiskFault
+MetDiskFault (Ok Made) = ⊥
+MetDiskFault (Ok (Played session)) = session.stop ≡ Some DiskFault
 
 -- Nothing was asked.
 pub record IsNoSession (session : Session) : Type 0 where

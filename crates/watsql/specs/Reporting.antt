@@ -64,4 +64,5 @@ pub record Reports (taken taken_now : Option (List ℕ)) (faults faults_now : �
   pub whole : Bool
   pub sent : Sends taken taken_now (text_of ended found) whole
   pub rose : whole ≡ false → Rose faults faults_now
+  pub kept : whole ≡ true → faults_now ≡ faults
   pub is : status ≡ status_of ended found whole

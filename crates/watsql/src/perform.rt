@@ -1,11 +1,11 @@
-ghost use Rattle.std.specs.Prelude.{⊤, ◌≡◌, ◌≢◌, ◌≤◌, ◌⊎◌, List, ℤ, None, Some, Err, map, string_bytes, Result, IfOk, IfErr, OnOk, OnErr, IsOkUnless};
-ghost use Rattle.wat_disk.specs.Disk.{Rose};
+ghost use Rattle.std.specs.Prelude.{⊤, ◌≡◌, ◌≢◌, ◌≤◌, ◌⊎◌, ℕ, List, ℤ, None, Some, Err, map, string_bytes, Result, IfOk, IfErr, OnOk, OnErr, IsOkUnless};
+ghost use Rattle.wat_disk.specs.Disk.{HasCause, Rose};
 ghost use Rattle.wat_gate.specs.GateLog.{file_of};
 ghost use Rattle.wat_rowlog.specs.Opening.{MayOpen};
 ghost use Rattle.wat_rowlog.specs.Opened.{IsOpened};
 ghost use Rattle.wat_words.specs.Commands.{command_of};
 ghost use Rattle.wat_init.specs.Making.{MayMake};
-ghost use Rattle.watsql.specs.Ending.{ChangesFirstByte, Ends, IsMade, IsOneText, IsSession, IsUntouched, LeavesUntouched};
+ghost use Rattle.watsql.specs.Ending.{ChangesFirstByte, Ends, IsMade, IsOneText, IsSession, IsUntouched, LeavesUntouched, MetDiskFault};
 ghost use Rattle.watsql.specs.Called.{made, opened, rows_of};
 
 use std::alloc::Global;
@@ -35,6 +35,7 @@ fn make_database<D: Disk>(disk: &mut D) -> Result<(), Fault>
     ensures made { OnOk result (IsMade D.tells_content (D.told disk.new)) }
     ensures first_byte { ChangesFirstByte (D.told disk.old) (D.told disk.new) }
     ensures untouched { result ≢ Err Fault.DiskFault → OnErr result (IsUntouched (D.told disk.old) (D.told disk.new)) }
+    ensures cause { HasCause (D.told disk.old) (D.told disk.new) (result ≡ Err Fault.DiskFault) }
 {
     match init(disk) {
         Ok(()) => Ok(()),
@@ -51,7 +52,7 @@ fn open_log<D: Disk>(alloc: Global, disk: &mut D) -> Result<Opened, Fault>
     ensures log { D.tells_content → IfOk result (IsOpened (D.told disk.new)) }
     ensures file { IfOk result (λ opened. file_of opened.log ≡ LOG.0) }
     ensures untouched { IsUntouched (D.told disk.old) (D.told disk.new) }
-    ensures never_falls { (D.told disk.old).faults ≤ (D.told disk.new).faults }
+    ensures cause { HasCause (D.told disk.old) (D.told disk.new) (result ≡ Err Fault.DiskFault) }
 {
     match open(alloc, disk) {
         Ok(opened) => Ok(opened),
@@ -76,6 +77,7 @@ fn play_script<D: Disk>(
     ensures memory { IsOkUnless result Fault.Memory }
     ensures never_falls { (D.told disk.old).faults ≤ (D.told disk.new).faults }
     ensures untouched { OnErr result (IsUntouched (D.told disk.old) (D.told disk.new)) }
+    ensures not_begun_faults { OnErr result ((D.told disk.new).faults ≡ (D.told disk.old).faults) }
 {
     // The room for the transcript is made before the disk is changed.
     let mut transcripts = Reserved::new(alloc);
@@ -112,6 +114,8 @@ fn run_script<L: Scripts, D: Disk>(
       disk = D.told disk.new;
     }) (map string_bytes words.now) result }
     ensures untouched { OnErr result (IsUntouched (D.told disk.old) (D.told disk.new)) }
+    ensures disk_faults { ¬ MetDiskFault result → (D.told disk.new).faults ≡ (D.told disk.old).faults }
+    ensures script_faults { ((i : ℕ) → result ≢ Err (Fault.CannotRead i)) → L.faults scripts.new ≡ L.faults scripts.old }
 {
     let texts = match read_scripts(alloc, script_names(Command::Run, words), scripts) {
         Ok(texts) => texts,
@@ -145,6 +149,8 @@ pub fn perform<L: Scripts, D: Disk>(
     ensures no_command { command_of (map string_bytes words.now) ≡ None → (result ≡ Err Fault.Usage) ⊎ (result ≡ Err Fault.Memory) }
     ensures untouched { IfErr result (LeavesUntouched (map string_bytes words.now) (D.told disk.old) (D.told disk.new)) }
     ensures init { command_of (map string_bytes words.now) ≡ Some Command.Init → ChangesFirstByte (D.told disk.old) (D.told disk.new) }
+    ensures disk_faults { ¬ MetDiskFault result → (D.told disk.new).faults ≡ (D.told disk.old).faults }
+    ensures script_faults { ((i : ℕ) → result ≢ Err (Fault.CannotRead i)) → L.faults scripts.new ≡ L.faults scripts.old }
 {
     match read_words(alloc, words) {
         Ok(Some(Command::Init)) => match make_database(disk) {

@@ -52,6 +52,9 @@ pub fn run_tool<L: Scripts, D: Disk, K: Sink>(
     // What is written and the status are those of this end.
     ensures reports { Reports (K.taken out.old) (K.taken out.new) (K.faults out.old) (K.faults out.new)
         (ended result.outcome result.session) result.status }
+    // A count of faults stays, unless the status says that scripts or the disk have failed.
+    ensures script_faults { result.status ≢ 2 → L.faults scripts.new ≡ L.faults scripts.old }
+    ensures disk_faults { result.status ≢ 4 → (D.told result.disk).faults ≡ (D.told disk).faults }
 
     // Status 1 stands for words that are no command, and where all is well the status is 0, unless memory was wanted.
     ensures usage { result.status ≡ 1 → command_of (map string_bytes words.now) ≡ None }
@@ -109,6 +112,9 @@ pub fn run<R: Threads + Wait + Sync, L: Scripts, D: Disk + Send, G: Gate + Sync,
     // What is written and the status are those of this end.
     ensures reports { Reports (K.taken out.old) (K.taken out.new) (K.faults out.old) (K.faults out.new)
         (ended result.outcome result.session) result.status }
+    // A count of faults stays, unless the status says that scripts or the disk have failed.
+    ensures script_faults { result.status ≢ 2 → L.faults scripts.new ≡ L.faults scripts.old }
+    ensures disk_faults { result.status ≢ 4 → (D.told result.disk).faults ≡ (D.told disk).faults }
 
     // Status 1 stands for words that are no command, and where all is well the status is 0, unless memory was wanted.
     ensures usage { result.status ≡ 1 → command_of (map string_bytes words.now) ≡ None }

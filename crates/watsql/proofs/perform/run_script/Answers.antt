@@ -88,7 +88,7 @@ returns-in-Ok-play_script-clause-ends g c =
       may_open = MayOpen-later g.D.Disk.tells_content (before.content log_file) (Rose before mid) (Rose before now) opening.0
           (rose_on before mid now c.play_script.ensures.never_falls) opening.1;
       is = session_ends outside mid (map string_bytes c.args.words.now) (Err refusal.Memory) readings.0 c.in-Ok.texts opening.0 c.in-Ok-open_log.opened.rows.entries (Rose before mid) c.in-Ok-play_script.session
-          command readings.2 opening.2 opening.1 c.in-Ok-open_log.ensures.untouched c.in-Ok-open_log.ensures.never_falls c.in-Ok-play_script.ensures.session;
+          command readings.2 opening.2 opening.1 c.in-Ok-open_log.ensures.untouched (c.open_log.ensures.cause.kept (λ e. let ok = c.in-Ok-open_log.is in cc)) c.in-Ok-play_script.ensures.session;
     }
 
 pub returns-in-Err-play_script-clause-ends : goal.returns-in-Err-play_script-clause-ends

@@ -1,6 +1,6 @@
 use Rattle.std.proofs.Common.{map, string_bytes}
 use Rattle.watsql.specs.Ending.{Outside}
-use Rattle.watsql.proofs.EndingLemmas.{status_0, status_1}
+use Rattle.watsql.proofs.EndingLemmas.{status_0, status_1, status_2, status_4}
 use Rattle.watsql.proofs.tool.run_tool.Goals as goal
 
 pub returns-clause-well : goal.returns-clause-well
@@ -28,3 +28,13 @@ returns-clause-usage g c =
     } in
     status_1 outside (map string_bytes c.args.words.now) (g.K.Sink.taken c.args.out.now) (g.K.Sink.taken c.report-status.new.out) (g.K.Sink.faults c.args.out.now) (g.K.Sink.faults c.report-status.new.out)
     c.perform-ended.result c.report-status.result c.perform-ended.ensures.ends c.report-status.ensures
+
+pub returns-clause-script_faults : goal.returns-clause-script_faults
+returns-clause-script_faults g c well =
+    c.perform-ended.ensures.script_faults (λ i is. well (status_2 (g.K.Sink.taken c.args.out.now) (g.K.Sink.taken c.report-status.new.out) (g.K.Sink.faults c.args.out.now) (g.K.Sink.faults c.report-status.new.out)
+    c.perform-ended.result c.report-status.result i c.report-status.ensures is))
+
+pub returns-clause-disk_faults : goal.returns-clause-disk_faults
+returns-clause-disk_faults g c well =
+    c.perform-ended.ensures.disk_faults (λ met. well (status_4 (g.K.Sink.taken c.args.out.now) (g.K.Sink.taken c.report-status.new.out) (g.K.Sink.faults c.args.out.now) (g.K.Sink.faults c.report-status.new.out)
+    c.perform-ended.result c.report-status.result c.report-status.ensures met))
