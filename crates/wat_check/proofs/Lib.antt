@@ -1,0 +1,11 @@
+pub mod BareLemmas
+pub mod ChangeLemmas
+pub mod Chains
+pub mod CheckLemmas
+pub mod ColumnLemmas
+pub mod Firsts
+pub mod PlaceLemmas
+pub mod RuleLemmas
+pub mod ScopeLemmas
+pub mod Steps
+pub mod TypeLemmas

@@ -1,0 +1,6 @@
+pub mod Logic
+pub mod Operators
+pub mod Aggregates
+pub mod Evaluation
+pub mod LeftOperand
+pub mod Context

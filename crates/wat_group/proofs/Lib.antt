@@ -1,0 +1,10 @@
+pub mod AnswerLemmas
+pub mod AnyOrder
+pub mod Classes
+pub mod FirstOfEach
+pub mod GroupsOfRuns
+pub mod JudgedLemmas
+pub mod Keying
+pub mod Runs
+pub mod Sorting
+pub mod Unless

@@ -1,0 +1,13 @@
+pub mod ActsApply
+pub mod Answering
+pub mod Applying
+pub mod Creating
+pub mod Defining
+pub mod Examples
+pub mod Fitting
+pub mod Inserting
+pub mod Naming
+pub mod Passed
+pub mod Replies
+pub mod Typed
+pub mod Updating

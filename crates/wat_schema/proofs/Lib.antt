@@ -1,0 +1,11 @@
+pub mod Again
+pub mod Distinct
+pub mod Keeping
+pub mod LookUps
+pub mod Made
+pub mod Order
+pub mod Owning
+pub mod RowOrder
+pub mod Stored
+pub mod TableLaws
+pub mod Whole

@@ -1,0 +1,6 @@
+use Rattle.std.proofs.Common.{◌≡◌, ◌≤◌, ◌*◌, take}
+use Rattle.wat_schema.specs.Definitions.{width_at}
+use Rattle.wat_schema.proofs.rules.key_width.Given as goal
+
+abbrev pub invariant-loop-i : goal.invariant-loop-i
+invariant-loop-i l = record { sum : l.total ≡ width_at l.columns (take l.i-index l.key); bound : l.total ≤ l.i-index * 65538 }

@@ -1,0 +1,4 @@
+pub mod Catalog
+pub mod Definitions
+pub mod Tables
+pub mod Stored

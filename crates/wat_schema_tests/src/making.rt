@@ -1,0 +1,57 @@
+//! Definitions to make a schema of.
+
+use std::alloc::{AllocError, Global};
+use wat_list::Items;
+use wat_value::{Column, IndexDef, Kind, Name, Ordinals, TableDef};
+
+fn name(alloc: Global, text: &str) -> anyhow::Result<Name> {
+    match Name::new(alloc, text)? {
+        Some(name) => Ok(name),
+        None => Err(anyhow::Error::msg("no name")),
+    }
+}
+
+fn column(alloc: Global, text: &str, nullable: bool) -> anyhow::Result<Column> {
+    let name = name(alloc, text)?;
+    Ok(Column {
+        name,
+        kind: Kind::Integer,
+        nullable,
+    })
+}
+
+/// A column's number, so many times.
+pub fn ordinals(alloc: Global, column: u8, times: u32) -> Result<Ordinals, AllocError> {
+    let mut numbers = Items::new(alloc);
+    for _ in 0..times {
+        numbers.push(column)?;
+    }
+    Ok(numbers)
+}
+
+/// A table with the columns `k`, which is its primary key, and `v`, which may be NULL.
+pub fn table(alloc: Global, number: u32, text: &str) -> anyhow::Result<TableDef> {
+    let mut columns = Items::new(alloc);
+    columns.push(column(alloc, "k", false)?)?;
+    columns.push(column(alloc, "v", true)?)?;
+    let name = name(alloc, text)?;
+    let key = ordinals(alloc, 0, 1)?;
+    Ok(TableDef {
+        number,
+        name,
+        columns,
+        key,
+    })
+}
+
+/// An index on the column `k`.
+pub fn index(alloc: Global, table: u32, number: u8, text: &str) -> anyhow::Result<IndexDef> {
+    let name = name(alloc, text)?;
+    let columns = ordinals(alloc, 0, 1)?;
+    Ok(IndexDef {
+        number,
+        table,
+        name,
+        columns,
+    })
+}

@@ -1,0 +1,3 @@
+pub mod AggregateLemmas
+pub mod Chains
+pub mod FoldLemmas

@@ -1,0 +1,4 @@
+pub mod Chain
+pub mod Lent
+pub mod Parts
+pub mod Queries
