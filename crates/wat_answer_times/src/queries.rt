@@ -30,7 +30,7 @@ fn query(
 }
 
 /// `SELECT v, w FROM t ORDER BY v DESC`, also with DISTINCT.
-pub fn ordered(alloc: Global, distinct: bool) -> Result<Query, NoMemory> {
+pub(crate) fn ordered(alloc: Global, distinct: bool) -> Result<Query, NoMemory> {
     let mut items = Items::new(alloc);
     items.push(column(1))?;
     items.push(column(2))?;
@@ -39,7 +39,7 @@ pub fn ordered(alloc: Global, distinct: bool) -> Result<Query, NoMemory> {
 }
 
 /// `SELECT v, COUNT(*), SUM(k) FROM t GROUP BY v ORDER BY 2 DESC`
-pub fn grouped(alloc: Global) -> Result<Query, NoMemory> {
+pub(crate) fn grouped(alloc: Global) -> Result<Query, NoMemory> {
     let mut items = Items::new(alloc);
     items.push(column(1))?;
     items.push(Expr::Aggregate {

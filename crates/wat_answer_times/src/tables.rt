@@ -14,7 +14,7 @@ fn combination(alloc: Global, k: i64, v: i64) -> Result<Combination, NoMemory> {
 
 /// So many rows of the table, in no order: a key, a number of which about ten rows have each, and a
 /// text.
-pub fn combinations(alloc: Global, count: u64) -> Result<Combinations, NoMemory> {
+pub(crate) fn combinations(alloc: Global, count: u64) -> Result<Combinations, NoMemory> {
     let mut met = Items::new(alloc);
     let mut seed: u64 = 12_345;
     for _turn in 0..count {
@@ -29,7 +29,7 @@ pub fn combinations(alloc: Global, count: u64) -> Result<Combinations, NoMemory>
 }
 
 /// The one table, whose first column is its key.
-pub fn defs(alloc: Global) -> Result<TableDefs, NoMemory> {
+pub(crate) fn defs(alloc: Global) -> Result<TableDefs, NoMemory> {
     let mut defs = Items::new(alloc);
     if let Some(name) = Name::new(alloc, "t")? {
         defs.push(TableDef {

@@ -11,7 +11,7 @@ fn printed_value(alloc: Global, value: &Value) -> Result<String, AllocError> {
 }
 
 /// The values in parentheses, with commas between.
-pub fn printed_row(alloc: Global, row: &Row) -> Result<String, AllocError> {
+pub(crate) fn printed_row(alloc: Global, row: &Row) -> Result<String, AllocError> {
     let mut printed = String::from_str(alloc, "(")?;
     for (i, value) in row.as_slice().iter().enumerate() {
         if i > 0 {
@@ -24,7 +24,7 @@ pub fn printed_row(alloc: Global, row: &Row) -> Result<String, AllocError> {
 }
 
 /// The rows with spaces between.
-pub fn printed_rows(alloc: Global, rows: &Rows) -> Result<String, AllocError> {
+pub(crate) fn printed_rows(alloc: Global, rows: &Rows) -> Result<String, AllocError> {
     let mut printed = String::new(alloc);
     for (i, row) in rows.as_slice().iter().enumerate() {
         if i > 0 {
@@ -39,7 +39,7 @@ pub fn printed_rows(alloc: Global, rows: &Rows) -> Result<String, AllocError> {
 }
 
 /// The refusals of a check; there are no others here.
-pub fn printed_refusal(alloc: Global, refusal: &Refusal) -> Result<String, AllocError> {
+pub(crate) fn printed_refusal(alloc: Global, refusal: &Refusal) -> Result<String, AllocError> {
     match refusal {
         Refusal::NoTable { name } => format!(in alloc; "NoTable {}", name.as_str()),
         Refusal::NoColumn { name } => format!(in alloc; "NoColumn {}", name.as_str()),

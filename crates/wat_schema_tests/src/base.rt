@@ -8,14 +8,14 @@ use wat_value::{IndexDefs, SchemaChange, TableDefs};
 
 /// A schema, and lists of definitions to make the next one of.
 #[derive(Debug, Drop)]
-pub struct Base {
+pub(crate) struct Base {
     schema: Schema,
     defs: TableDefs,
     indexes: IndexDefs,
 }
 
 impl Base {
-    pub fn new(alloc: Global) -> Base {
+    pub(crate) fn new(alloc: Global) -> Base {
         Base {
             schema: Schema::new(alloc),
             defs: Items::new(alloc),
@@ -50,7 +50,7 @@ impl Base {
     }
 
     /// Changes the schema by a step, or answers None where the step changes none.
-    pub fn change(
+    pub(crate) fn change(
         &mut self,
         alloc: Global,
         step: &str,
@@ -81,7 +81,7 @@ impl Base {
     }
 
     /// What is found in the schema, or None where the step looks for nothing.
-    pub fn found(
+    pub(crate) fn found(
         &self,
         alloc: Global,
         step: &str,
@@ -152,7 +152,7 @@ impl Base {
     }
 
     /// Adds to the lists by a step, and answers whether it is one that does.
-    pub fn list(
+    pub(crate) fn list(
         &mut self,
         alloc: Global,
         step: &str,
@@ -172,7 +172,7 @@ impl Base {
     }
 
     /// Goes on with the schema of the lists, where they are those of one, and empties them.
-    pub fn of_lists(&mut self, alloc: Global, next: u32) -> Result<String, AllocError> {
+    pub(crate) fn of_lists(&mut self, alloc: Global, next: u32) -> Result<String, AllocError> {
         let made = Schema::of(alloc, &self.defs, &self.indexes, next)?;
         self.defs = Items::new(alloc);
         self.indexes = Items::new(alloc);
@@ -186,7 +186,7 @@ impl Base {
     }
 
     /// Goes on with the schema of what this one gives.
-    pub fn again(&mut self, alloc: Global) -> Result<String, AllocError> {
+    pub(crate) fn again(&mut self, alloc: Global) -> Result<String, AllocError> {
         self.defs = self.schema.defs()?;
         self.indexes = self.schema.indexes()?;
         let next = self.schema.next();
@@ -194,7 +194,7 @@ impl Base {
     }
 
     /// All that the schema gives.
-    pub fn shown(&self, alloc: Global) -> Result<String, AllocError> {
+    pub(crate) fn shown(&self, alloc: Global) -> Result<String, AllocError> {
         let mut text = String::new(alloc);
         let defs = self.schema.defs()?;
         for def in defs.as_slice() {

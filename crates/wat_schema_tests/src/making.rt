@@ -21,7 +21,7 @@ fn column(alloc: Global, text: &str, nullable: bool) -> anyhow::Result<Column> {
 }
 
 /// A column's number, so many times.
-pub fn ordinals(alloc: Global, column: u8, times: u32) -> Result<Ordinals, AllocError> {
+pub(crate) fn ordinals(alloc: Global, column: u8, times: u32) -> Result<Ordinals, AllocError> {
     let mut numbers = Items::new(alloc);
     for _ in 0..times {
         numbers.push(column)?;
@@ -30,7 +30,7 @@ pub fn ordinals(alloc: Global, column: u8, times: u32) -> Result<Ordinals, Alloc
 }
 
 /// A table with the columns `k`, which is its primary key, and `v`, which may be NULL.
-pub fn table(alloc: Global, number: u32, text: &str) -> anyhow::Result<TableDef> {
+pub(crate) fn table(alloc: Global, number: u32, text: &str) -> anyhow::Result<TableDef> {
     let mut columns = Items::new(alloc);
     columns.push(column(alloc, "k", false)?)?;
     columns.push(column(alloc, "v", true)?)?;
@@ -45,7 +45,7 @@ pub fn table(alloc: Global, number: u32, text: &str) -> anyhow::Result<TableDef>
 }
 
 /// An index on the column `k`.
-pub fn index(alloc: Global, table: u32, number: u8, text: &str) -> anyhow::Result<IndexDef> {
+pub(crate) fn index(alloc: Global, table: u32, number: u8, text: &str) -> anyhow::Result<IndexDef> {
     let name = name(alloc, text)?;
     let columns = ordinals(alloc, 0, 1)?;
     Ok(IndexDef {
