@@ -1,5 +1,5 @@
 -- How a session goes on by a statement, and how it stops.
-use Rattle.std.proofs.Common.{◌≡◌, ◌≢◌, ⊎_elim, ℕ, zero, suc, ◌+◌, ◌<◌, ◌≤◌, List, [], ◌∷◌, ◌++◌, length, get_or, take, map, Option, None, Some, ℤ, refl, sym, ◌∙◌, ap, subst, arith, append_assoc, append-nil, length-append}
+use Rattle.std.proofs.Common.{◌≡◌, ◌≢◌, ⊎_elim, ℕ, zero, suc, ◌+◌, ◌<◌, ◌≤◌, List, [], ◌∷◌, ◌++◌, length, get_or, take, map, Option, None, Some, ℤ, refl, sym, ◌∙◌, ap, subst, arith, append_assoc, append-nil, length-append, IsSome}
 use Rattle.std.specs.Option.{option_to_list}
 use Rattle.std.proofs.lemmas.List.{length-take, length-map, get_or-map, get_or_append_left, get_or_push, length_push, take_more, map-append}
 use Rattle.std.proofs.lemmas.Bool.{cases_lt}
@@ -18,7 +18,7 @@ use Rattle.wat_onetable.specs.declared.statement.Statement.TheVariants.{Insert, 
 use Rattle.wat_onetable.specs.History.{answers_from, state_after, committed_by, history_of, rows_after, span_of}
 use Rattle.wat_onetable.proofs.Histories.{state_after_more, history_from_more, answers_from_more, length-history_from-le}
 use Rattle.wat_rowlog.specs.Logged.{body_of, Restarts}
-use Rattle.wat_play.specs.Kept.{AreMoments, last_moment}
+use Rattle.wat_play.specs.Kept.{cut_of, AreMoments, last_moment}
 use Rattle.wat_play.specs.Saved.{saved_by}
 use Rattle.wat_play.specs.Session.{IsAnswered, IsSession}
 use Rattle.wat_play.proofs.RowsLemmas.{at_statements, restarts_more}
@@ -144,6 +144,7 @@ begins tells entry file rows text restarts = record {
   order = record { ascending = λ i k le within. absurd (omega arith); after_entry = λ k within. absurd (omega arith); past = λ k within. absurd (omega arith) };
   calls = λ well. refl;
   disk_fault = λ none. cc;
+  at_commit = λ none. cc;
   never_falls = omega arith;
   faults_stay = λ well. refl;
   kept = λ t none. restarts t;
@@ -166,6 +167,7 @@ goes_on tells entry mid new file rows text i failed moments new_moments here old
       order = subst (AreMoments entry.moment new.moment) (sym noted) (moments_more entry.moment new.moment moments (committed_by s q) (omega (arith, later, cause.later)) (moments_later entry.moment mid.moment new.moment moments cause.later old.order));
       calls = λ well. last_more entry.moment mid.moment new.moment moments (committed_by s q) (length-committed s q) (old.calls (λ fault. cc)) quiet ∙ ap (last_moment entry.moment) (sym noted);
       disk_fault = λ none. cc;
+      at_commit = λ none. cc;
       never_falls = omega (arith, old.never_falls, cause.never_falls);
       faults_stay = λ none. cause.kept well ∙ old.faults_stay (λ fault. cc);
       kept = λ t none. subst (λ (l : List (List (ℤ × ℤ))). Restarts (new.content file) (rows_after rows l)) (sym more)
@@ -185,13 +187,14 @@ rose_later entry mid new first then = omega (arith, first, then)
 
 pub stops_here : (tells : Type 0) (entry mid new : Told) (file : ℕ) (rows : List (ℤ × ℤ)) (text : List ℕ) (i : ℕ) (reason : Reason) (failed : Type 0) (moments new_moments : List ℕ)
     → IsSession tells entry mid file rows text i None moments → entry.moment ≤ mid.moment → HasCause mid new failed → (reason ≡ DiskFault → failed) → (failed → reason ≡ DiskFault) → (reason ≡ Memory → new.moment ≡ mid.moment) → SameOthers file mid.content new.content → new_moments ≡ moments
-    → IsSession tells entry new file rows text i (Some reason) new_moments
-stops_here tells entry mid new file rows text i reason failed moments new_moments old later cause is_failed is_fault memory others same = record {
+    → (reason ≡ DiskFault → IsSome (cut_of (Some reason) rows text i)) → IsSession tells entry new file rows text i (Some reason) new_moments
+stops_here tells entry mid new file rows text i reason failed moments new_moments old later cause is_failed is_fault memory others same cut = record {
   commits = ap length same ∙ old.commits;
   order = subst (AreMoments entry.moment new.moment) (sym same) (moments_later entry.moment mid.moment new.moment moments cause.later old.order);
   calls = λ well. memory (other_reason reason well) ∙ old.calls (λ fault. cc) ∙ ap (last_moment entry.moment) (sym same);
   disk_fault = λ fault. rose_later entry mid new old.never_falls (cause.rose (is_failed (some_is reason DiskFault fault)));
   never_falls = omega (arith, old.never_falls, cause.never_falls);
+  at_commit = λ fault. cut (some_is reason DiskFault fault);
   faults_stay = λ well. cause.kept (λ fails. well (ap Some (is_fault fails))) ∙ old.faults_stay (λ fault. cc);
   kept = λ t none. cc;
   others = λ other not_it. others other not_it ∙ old.others other not_it;

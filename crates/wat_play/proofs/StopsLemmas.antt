@@ -1,5 +1,5 @@
 -- What a stop leaves of a session's log, statement by statement.
-use Rattle.std.proofs.Common.{◌≡◌, ◌≢◌, ◌⊎◌, inl, inr, ⊎_elim, ◌↔◌, ℕ, ◌+◌, ◌<◌, ◌≤◌, List, [], ◌∷◌, ◌++◌, length, get_or, take, drop, map, unwrap_or, option_to_list, Option, None, Some, ℤ, refl, sym, ◌∙◌, ap, subst, arith, length-append}
+use Rattle.std.proofs.Common.{◌≡◌, ◌≢◌, ◌⊎◌, inl, inr, ⊎_elim, ◌↔◌, ℕ, ◌+◌, ◌<◌, ◌≤◌, List, [], ◌∷◌, ◌++◌, length, get_or, take, drop, map, unwrap_or, option_to_list, Option, None, Some, ℤ, refl, sym, ◌∙◌, ap, subst, arith, length-append, IsSome}
 use Rattle.std.proofs.lemmas.List.{take_all, take-append-le, drop_more, get_or_append_left, get_or_push}
 use Rattle.std.proofs.lemmas.Bool.{cases_lt}
 use Rattle.wat_conn.specs.declared.answer.Reason.{Reason}
@@ -183,6 +183,16 @@ cut_is rows before Select rest some = absurd (some refl)
 cut_is rows before Commit rest some = cut_pending ((state_after (begun rows) before).inserted) some
 cut_is rows before Other rest some = absurd (some refl)
 cut_is rows before (Malformed at) rest some = absurd (some refl)
+
+-- a statement that puts rows on the disk is the COMMIT of an open transaction
+pub cut_stands : (rows : List (ℤ × ℤ)) (text : List ℕ) (i : ℕ) → i < length (statements_of text)
+    → saved_by (state_after (begun rows) (take i (statements_of text))) (get_or (statements_of text) i Other) ≢ [] → IsSome (cut_of (Some DiskFault) rows text i)
+cut_stands rows text i here some =
+    let qs = statements_of text in
+    let before = take i qs in
+    let found = cut_is rows before (get_or qs i Other) (drop (i + 1) qs) some in
+    let is : cut_of (Some DiskFault) rows text i ≡ Some found.rows = ap (commit_under_way rows before) (drop_more qs i Other here) ∙ found.is in
+    subst IsSome (sym is) refl
 
 -- the session has stopped
 pub keeps_stopped : (entry mid new : Told) (file : ℕ) (rows : List (ℤ × ℤ)) (text : List ℕ) (i : ℕ) (moments : List ℕ) (reason : Reason) → i < length (statements_of text)

@@ -1,5 +1,5 @@
 -- What a session has done of a script by the time at which it has answered so many statements.
-use Rattle.std.specs.Prelude.{◌≡◌, ◌≢◌, ℕ, ◌≤◌, List, [], length, take, map, Option, None, Some, ℤ}
+use Rattle.std.specs.Prelude.{◌≡◌, ◌≢◌, ℕ, ◌≤◌, List, [], length, take, map, Option, None, Some, IsSome, ℤ}
 use Rattle.wat_conn.specs.declared.answer.Answer.TheVariants.{Stopped}
 use Rattle.wat_conn.specs.declared.answer.Reason.{Reason}
 use Rattle.wat_conn.specs.declared.answer.Reason.TheVariants.{DiskFault}
@@ -11,7 +11,7 @@ use Rattle.wat_onetable.specs.Statement.{statements_of}
 use Rattle.wat_onetable.specs.Table.{begun}
 use Rattle.wat_onetable.specs.History.{answers_from, history_of, rows_after, span_of}
 use Rattle.wat_rowlog.specs.Logged.{Restarts}
-use Rattle.wat_play.specs.Kept.{AreMoments, last_moment}
+use Rattle.wat_play.specs.Kept.{cut_of, AreMoments, last_moment}
 
 -- the entry of a statement that wasn't answered
 abbrev pub stopped_at : Reason → Span → Entry
@@ -35,6 +35,8 @@ pub record IsSession (tells : Type 0) (entry now : Told) (file : ℕ) (rows : Li
   pub order : AreMoments entry.moment now.moment moments
   pub calls : stop ≢ Some DiskFault → now.moment ≡ last_moment entry.moment moments
   pub disk_fault : stop ≡ Some DiskFault → Rose entry now
+  -- it stops for the disk only where the next statement is the COMMIT of an open transaction
+  pub at_commit : stop ≡ Some DiskFault → IsSome (cut_of stop rows text answered)
   pub never_falls : entry.faults ≤ now.faults
   pub faults_stay : stop ≢ Some DiskFault → now.faults ≡ entry.faults
   pub kept : tells → stop ≡ None → Restarts (now.content file) (rows_after rows (history_of rows text answered))

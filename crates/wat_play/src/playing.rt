@@ -1,4 +1,4 @@
-ghost use Rattle.std.specs.Prelude.{◌≡◌, ◌≢◌, ◌+◌, ◌<◌, ◌≤◌, ◌^◌, ◌++◌, [], ℕ, length, map, None, Some, Err, IfOk, OnOk, OnErr};
+ghost use Rattle.std.specs.Prelude.{◌≡◌, ◌≢◌, ◌+◌, ◌<◌, ◌≤◌, ◌^◌, ◌++◌, [], ℕ, length, map, None, Some, Err, IfOk, IsSome, OnOk, OnErr};
 ghost use Rattle.wat_disk.specs.Disk.{IsSynced, InFile, SameFiles, SameOthers, EachStop, HasCause, Rose};
 ghost use Rattle.wat_gate.specs.GateLog.{file_of, bodies_in, IsLogOf};
 ghost use Rattle.wat_parse.specs.Statements.{statements_of as spans_of};
@@ -163,6 +163,9 @@ pub fn play<D: Disk>(
     // Without a disk fault, no call on the disk is made after the last commit.
     ensures calls { IfOk result (λ played. played.stop ≢ Some Reason.DiskFault → (D.told disk.new).moment ≡ last_moment (D.told disk.old).moment played.moments) }
     ensures disk_fault { IfOk result (λ played. played.stop ≡ Some Reason.DiskFault → Rose (D.told disk.old) (D.told disk.new)) }
+    // It stops for the disk only where the next statement is the COMMIT of an open transaction.
+    ensures at_commit { IfOk result (λ played. played.stop ≡ Some Reason.DiskFault →
+        IsSome (cut_of played.stop opened.rows.entries script.now (answered_of played.transcript))) }
     ensures never_falls { (D.told disk.old).faults ≤ (D.told disk.new).faults }
     ensures faults_stay { IfOk result (λ played. played.stop ≢ Some Reason.DiskFault → (D.told disk.new).faults ≡ (D.told disk.old).faults) }
 

@@ -64,6 +64,7 @@ IsSession-earlier tells before mid now texts rows session untouched faults resta
   one_transcript = is.one_transcript;
   fits = is.fits;
   disk_fault = λ stop. let rose = is.disk_fault stop in omega (arith, rose, faults);
+  at_commit = is.at_commit;
   faults_stay = λ well. is.faults_stay well ∙ faults;
   commits = is.commits;
   moments = record {

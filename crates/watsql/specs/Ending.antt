@@ -1,5 +1,5 @@
 -- How a call ends: what the outside answered, and what the call leaves.
-use Rattle.std.specs.Prelude.{⊤, ◌≡◌, ◌≢◌, ◌≤◌, ℕ, length, List, [], ◌∷◌, Option, None, Some, Result, Ok, Err, ℤ, All}
+use Rattle.std.specs.Prelude.{⊤, ◌≡◌, ◌≢◌, ◌≤◌, ℕ, length, List, [], ◌∷◌, Option, None, Some, Result, Ok, Err, ℤ, All, IsSome}
 use Rattle.std.specs.Str.Lossy.{utf8_valid_len}
 use Rattle.wat_io.specs.Faults as io
 use Rattle.wat_io.specs.Scripts.{Texts}
@@ -46,6 +46,8 @@ pub record IsSession (tells : Type 0) (before now : Told) (texts : List (List �
   -- each statement has its answer over the rows, or the stop
   pub fits : Fits rows text session.stop (answered_of entries) entries
   pub disk_fault : session.stop ≡ Some DiskFault → Rose before now
+  -- it stops for the disk only where the next statement is the COMMIT of an open transaction
+  pub at_commit : session.stop ≡ Some DiskFault → IsSome (cut_of session.stop rows text (answered_of entries))
   pub faults_stay : session.stop ≢ Some DiskFault → now.faults ≡ before.faults
   -- each commit has its moment
   pub commits : length session.moments ≡ length (history_of rows text (answered_of entries))

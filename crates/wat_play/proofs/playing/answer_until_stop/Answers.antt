@@ -1,5 +1,7 @@
 -- Each turn is one statement more.
-use Rattle.std.proofs.Common.{◌≡◌, ◌+◌, ◌<◌, ◌++◌, ℕ, List, map, length, get_or, Err, None, Some, take, ℤ, refl, sym, ◌∙◌, ap, subst, arith}
+use Rattle.std.proofs.Common.{◌≡◌, ◌≢◌, ◌+◌, ◌<◌, ◌++◌, ℕ, List, [], map, length, get_or, Err, None, Some, IsSome, take, ℤ, refl, sym, ◌∙◌, ap, subst, arith}
+use Rattle.wat_conn.specs.declared.answer.Reason.{Reason}
+use Rattle.wat_conn.specs.declared.answer.Reason.TheVariants.{DiskFault}
 use Rattle.std.proofs.lemmas.List.{length-map}
 use Rattle.wat_parse.specs.declared.script.Span.{Span}
 use Rattle.wat_disk.specs.Disk.{IsSynced, InFile, SameOthers, EachStop}
@@ -15,7 +17,7 @@ use Rattle.wat_play.specs.Saved.{saved_by, KeepsOrSaves}
 use Rattle.wat_play.specs.Kept.{cut_of, KeepsCommits}
 use Rattle.wat_play.specs.Session.{IsSession}
 use Rattle.wat_play.proofs.RowsLemmas.{at_statements}
-use Rattle.wat_play.proofs.StopsLemmas.{KeepsAll, keeps_goes_on, keeps_commits, keeps_stopped}
+use Rattle.wat_play.proofs.StopsLemmas.{KeepsAll, cut_stands, keeps_goes_on, keeps_commits, keeps_stopped}
 use Rattle.wat_play.proofs.SessionLemmas.{history_more, length-committed, at_place, state_at, state_more, few_commits, statement_is, entries_end, entry_more, goes_on, stops_here}
 use Rattle.wat_play.proofs.playing.answer_until_stop.Goals as goal
 
@@ -132,9 +134,21 @@ returns-in-Err-clause-session g c =
     let reason = c.in-Err.reason in
     let file = file_of c.args.player.now.log in
     let tells = g.D.Disk.tells_content in
+    let i = c.loop-span.span-index in
+    let none : Span = record { from = 0; to = 0 } in
+    let span : Span = get_or c.args.spans.now i none in
+    let here : i < length (spans_of text) = omega (arith, ap length c.requires.spans, c.loop-span-test.true) in
+    let is : get_or (spans_of text) i none ≡ span = ap (λ (l : List Span). get_or l i none) (sym c.requires.spans) in
+    let q : statement_at text span ≡ at_place text i = sym (statement_is text i span none here is) in
+    let s : c.loop-span.player.table ≡ state_at rows text i = inv.table in
+    let there : i < length (statements_of text) = omega (arith, here, length-map (spans_of text) (statement_at text)) in
+    let saves : reason ≡ DiskFault → saved_by (state_at rows text i) (at_place text i) ≢ [] =
+    λ fault none_saved. c.answer_at.ensures.fault (c.in-Err.is ∙ ap Err fault) ((λ j. saved_by (s j) (q j)) ∙ none_saved) in
+    let at_commit : reason ≡ DiskFault → IsSome (cut_of (Some reason) rows text i) =
+    λ fault. subst (λ (r : Reason). IsSome (cut_of (Some r) rows text i)) (sym fault) (cut_stands rows text i there (saves fault)) in
     subst (λ (n : ℕ). IsSession tells entry new file rows text n (Some reason) c.answer_at.new.player.moments.items) (sym inv.entries.count)
     (stops_here tells entry mid new file rows text c.loop-span.span-index reason _ c.loop-span.player.moments.items c.answer_at.new.player.moments.items inv.session inv.later c.answer_at.ensures.cause
     (λ fault. c.in-Err.is ∙ ap Err fault) (λ e. let err = c.in-Err.is in cc)
     (λ memory. ap (λ d. (g.D.Disk.told d).moment) (c.answer_at.ensures.memory (c.in-Err.is ∙ ap Err memory)))
     (subst (λ (f : ℕ). SameOthers f mid.content new.content) inv.file c.answer_at.ensures.others)
-    (ap (λ r. r.items) c.in-Err.ensures.moments_stay))
+    (ap (λ r. r.items) c.in-Err.ensures.moments_stay) at_commit)

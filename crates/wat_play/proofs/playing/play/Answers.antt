@@ -1,4 +1,4 @@
-use Rattle.std.proofs.Common.{◌≡◌, ℕ, List, length, drop, ℤ, sym, ◌∙◌, ap, subst}
+use Rattle.std.proofs.Common.{◌≡◌, ℕ, List, length, drop, IsSome, ℤ, sym, ◌∙◌, ap, subst}
 use Rattle.std.proofs.lemmas.List.{take_rest}
 use Rattle.wat_parse.specs.declared.script.Span.{Span}
 use Rattle.wat_disk.specs.Disk.{IsSynced, SameFiles, EachStop}
@@ -75,3 +75,15 @@ returns-clause-stops g c t begun =
     let over = subst (λ (r : List (ℤ × ℤ)). KeepsCommits entry now 2 r (history_of r text (length entries)) moments (cut_of stop r text (length entries))) there here in
     let of_all = subst (λ (n : ℕ). KeepsCommits entry now 2 rows (history_of rows text n) moments (cut_of stop rows text n)) (sym count) over in
     subst (λ (m : List ℕ). KeepsCommits entry now 2 rows (history_of rows text (answered_of c.into_items.result)) m (cut_of stop rows text (answered_of c.into_items.result))) (sym c.into_items-2.ensures) of_all
+
+pub returns-clause-at_commit : goal.returns-clause-at_commit
+returns-clause-at_commit g c fault =
+    let rows = c.args.opened.rows.entries in
+    let text = c.args.script.now in
+    let stop = c.answer_until_stop-stop.result in
+    let entries = c.answer_until_stop-stop.new.entries.items in
+    let there : c.new.result.rows ≡ rows = ap (λ (s : State). s.rows) c.new.ensures in
+    let answered : IsAnswered rows text stop entries = subst (λ (r : List (ℤ × ℤ)). IsAnswered r text stop entries) there c.answer_until_stop-stop.ensures.answered in
+    let count = answered_is rows text stop entries c.into_items.result _ answered (c.into_items.ensures ∙ c.push_unanswered.ensures) in
+    let over = subst (λ (r : List (ℤ × ℤ)). IsSome (cut_of stop r text (length entries))) there (c.answer_until_stop-stop.ensures.session.at_commit fault) in
+    subst (λ (n : ℕ). IsSome (cut_of stop rows text n)) (sym count) over
