@@ -26,14 +26,14 @@ use Rattle.wat_schema.specs.declared.refusal.Refusal.TheVariants.{Arithmetic}
 use Rattle.wat_schema.specs.Catalog.{Name, Catalog, table_named, def_at, in_order, repeats}
 use Rattle.wat_schema.specs.Tables.{Row, Table, Tables, row_eq, by_key, has_row, rising, is_table, are_tables, catalog_of, table_at, apply_all}
 use Rattle.wat_schema.proofs.RowOrder as rows
-use Rattle.wat_check.specs.Refusals.{first}
-use Rattle.wat_check.specs.Check.{check, refusals, unless}
-use Rattle.wat_check.specs.Scope.{table_scope, query_scope}
-use Rattle.wat_check.specs.Columns.{needed, needed_of_insert, key_refusal, table_refusals, source_refusals, columns_refusals, key_refusals, name_refusals}
-use Rattle.wat_check.specs.Places.{placed, placed_set, placed_source, placed_statement}
-use Rattle.wat_check.specs.Rules.{types_of, query_typings, bare_columns, has_other, shown_columns, is_star, breaks_grouping, query_rules, query_rule, query_types, given_rule, type_named, misfits, kinds, typings, set_names, set_values, given_types, insert_rule, values_rule, tests_rule, update_rule, rule_refusals}
-use Rattle.wat_check.specs.Types.{ColumnTypes, typing_of, breaks, any_aggregated}
-use Rattle.wat_check.specs.declared.typing.ExprType.{ExprType}
+use Rattle.wat_rules.specs.Refusals.{first}
+use Rattle.wat_rules.specs.Check.{check, refusals, unless}
+use Rattle.wat_rules.specs.Scope.{table_scope, query_scope}
+use Rattle.wat_rules.specs.Columns.{needed, needed_of_insert, key_refusal, table_refusals, source_refusals, columns_refusals, key_refusals, name_refusals}
+use Rattle.wat_rules.specs.Places.{placed, placed_set, placed_source, placed_statement}
+use Rattle.wat_rules.specs.Rules.{types_of, query_typings, bare_columns, has_other, shown_columns, is_star, breaks_grouping, query_rules, query_rule, query_types, given_rule, type_named, misfits, kinds, typings, set_names, set_values, given_types, insert_rule, values_rule, tests_rule, update_rule, rule_refusals}
+use Rattle.wat_rules.specs.Types.{ColumnTypes, typing_of, breaks, any_aggregated}
+use Rattle.wat_rules.specs.declared.typing.ExprType.{ExprType}
 use Rattle.wat_schema.specs.Definitions.{same_name}
 use Rattle.wat_expr.specs.Evaluation.{over}
 use Rattle.wat_group.specs.declared.answer.Finished.{Finished}

@@ -24,11 +24,11 @@ use Rattle.wat_schema.specs.declared.refusal.Refusal.TheVariants.{NoTable}
 use Rattle.wat_schema.specs.Catalog.{Name, Catalog, table_named, def_at, has_name}
 use Rattle.wat_schema.specs.Tables.{Row, Table, Tables, listing_of, catalog_of, table_at}
 use Rattle.wat_schema.proofs.RowOrder as rows
-use Rattle.wat_check.specs.declared.typing.ExprType.{ExprType}
-use Rattle.wat_check.specs.Scope.{Scope, query_scope, visible}
-use Rattle.wat_check.specs.Columns.{needed, needed_sources}
-use Rattle.wat_check.specs.Types.{ColumnTypes, typing_of}
-use Rattle.wat_check.specs.Rules.{column_type, types_of, type_at, types_in, typings, kinds, shown_types, query_types}
+use Rattle.wat_rules.specs.declared.typing.ExprType.{ExprType}
+use Rattle.wat_rules.specs.Scope.{Scope, query_scope, visible}
+use Rattle.wat_rules.specs.Columns.{needed, needed_sources}
+use Rattle.wat_rules.specs.Types.{ColumnTypes, typing_of}
+use Rattle.wat_rules.specs.Rules.{column_type, types_of, type_at, types_in, typings, kinds, shown_types, query_types}
 use Rattle.wat_expr.specs.declared.outcome.Outcome.{Outcome}
 use Rattle.wat_expr.specs.declared.outcome.Outcome.TheVariants as o
 use Rattle.wat_expr.specs.Evaluation.{Combination, Over, over, outcome_of}

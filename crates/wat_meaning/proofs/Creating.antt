@@ -17,9 +17,9 @@ use Rattle.wat_schema.specs.declared.refusal.Refusal.TheVariants.{NoColumn, Tabl
 use Rattle.wat_schema.specs.Catalog.{Name, Catalog, Listing, table_named, listing_at, listing_named, def_at, ordinal, column_at, has_index_named, repeats}
 use Rattle.wat_schema.specs.Definitions.{number_named, same_name, width, width_of, widths, width_at, is_nullable, may_be_null, is_missing, is_bad_key, is_bad_length, is_full, table_rules, bad_definition, bad_table, bad_index, bad_index_at, are_columns, is_definition, next_index, allows_index_here, allows_index_of, allows}
 use Rattle.wat_schema.proofs.RowOrder as rows
-use Rattle.wat_check.specs.Scope.{table_scope, found}
-use Rattle.wat_check.specs.Columns.{new_table, new_index, column_refusals, in_names}
-use Rattle.wat_check.specs.Changes.{numbers_named, with_key, ordinal_in, made_table, made_index}
+use Rattle.wat_rules.specs.Scope.{table_scope, found}
+use Rattle.wat_rules.specs.Columns.{new_table, new_index, column_refusals, in_names}
+use Rattle.wat_rules.specs.Changes.{numbers_named, with_key, ordinal_in, made_table, made_index}
 use Rattle.wat_meaning.proofs.Passed.{both_empty}
 use Rattle.wat_meaning.proofs.Inserting.{same_bytes, bytes_itself}
 use Rattle.wat_meaning.proofs.Naming.{none_broken}

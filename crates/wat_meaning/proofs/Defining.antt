@@ -15,13 +15,13 @@ use Rattle.wat_schema.specs.declared.refusal.Refusal.TheVariants.{BadTable, BadI
 use Rattle.wat_schema.specs.Catalog.{Name, Catalog, Listing, has_name, has_number, listing_named, listing_at, table_named}
 use Rattle.wat_schema.specs.Definitions.{bad_table, bad_index_at, next_index, allows}
 use Rattle.wat_schema.specs.Tables.{Tables, catalog_of, after_alter}
-use Rattle.wat_check.specs.Refusals.{first}
-use Rattle.wat_check.specs.Scope.{table_scope}
-use Rattle.wat_check.specs.Columns.{needed, new_table, new_index, in_names, table_refusals, source_refusals, columns_refusals, key_refusals, name_refusals}
-use Rattle.wat_check.specs.Places.{placed_statement}
-use Rattle.wat_check.specs.Rules.{table_rule, index_rule, rule_refusals}
-use Rattle.wat_check.specs.Changes.{column_of, keys_of, numbers_named, made_table, made_index}
-use Rattle.wat_check.specs.Check.{check, refusals, unless}
+use Rattle.wat_rules.specs.Refusals.{first}
+use Rattle.wat_rules.specs.Scope.{table_scope}
+use Rattle.wat_rules.specs.Columns.{needed, new_table, new_index, in_names, table_refusals, source_refusals, columns_refusals, key_refusals, name_refusals}
+use Rattle.wat_rules.specs.Places.{placed_statement}
+use Rattle.wat_rules.specs.Rules.{table_rule, index_rule, rule_refusals}
+use Rattle.wat_rules.specs.Changes.{column_of, keys_of, numbers_named, made_table, made_index}
+use Rattle.wat_rules.specs.Check.{check, refusals, unless}
 use Rattle.wat_meaning.specs.Meaning.{meaning_checked, after_check, meaning}
 use Rattle.wat_meaning.specs.Standing.{lists_columns}
 use Rattle.wat_meaning.proofs.Applying.{Applies, none_apply}

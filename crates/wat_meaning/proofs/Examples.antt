@@ -2,13 +2,13 @@
 use Rattle.std.proofs.Common.{refl}
 use Rattle.wat_walk.specs.Parts.{written_in, bare_in, is_aggregated, arguments_in, with_places}
 use Rattle.wat_walk.proofs.FoldLemmas.{folds}
-use Rattle.wat_check.specs.Scope.{visible, found}
-use Rattle.wat_check.specs.Columns.{column_refusals, in_expression, in_names, in_set, in_query, key_refusal, name_refusals}
-use Rattle.wat_check.specs.Places.{place_of, placed, placed_order, placed_set}
-use Rattle.wat_check.specs.Types.{operator_rule, operator_type, typing_of}
-use Rattle.wat_check.specs.Rules.{type_named, value_rule, test_rule, breaks_grouping, shown_types, has_bad_position, query_rule, insert_rule, given_rule, update_rule, delete_rule, table_rule, index_rule}
-use Rattle.wat_check.specs.Changes.{with_key, ordinal_in}
-use Rattle.wat_check.specs.Check.{refusals, check}
+use Rattle.wat_rules.specs.Scope.{visible, found}
+use Rattle.wat_rules.specs.Columns.{column_refusals, in_expression, in_names, in_set, in_query, key_refusal, name_refusals}
+use Rattle.wat_rules.specs.Places.{place_of, placed, placed_order, placed_set}
+use Rattle.wat_rules.specs.Types.{operator_rule, operator_type, typing_of}
+use Rattle.wat_rules.specs.Rules.{type_named, value_rule, test_rule, breaks_grouping, shown_types, has_bad_position, query_rule, insert_rule, given_rule, update_rule, delete_rule, table_rule, index_rule}
+use Rattle.wat_rules.specs.Changes.{with_key, ordinal_in}
+use Rattle.wat_rules.specs.Check.{refusals, check}
 use Rattle.wat_expr.specs.Operators.{binary}
 use Rattle.wat_expr.proofs.EvaluationLemmas.{outcomes_over}
 use Rattle.wat_group.specs.Query.{answer_of}

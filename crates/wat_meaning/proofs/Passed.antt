@@ -6,11 +6,11 @@ use Rattle.std.proofs.lemmas.Bool.{or_parts, cases_Bool}
 use Rattle.wat_value.specs.declared.definition.TableDef.{TableDef}
 use Rattle.wat_schema.specs.Catalog.{Name, Catalog, def_at, ordinal}
 use Rattle.wat_schema.specs.Tables.{Table, Tables, listing_of, catalog_of, table_at}
-use Rattle.wat_check.specs.declared.typing.ExprType.{ExprType}
-use Rattle.wat_check.specs.declared.typing.ExprType.TheVariants.{Null}
-use Rattle.wat_check.specs.Refusals.{first}
-use Rattle.wat_check.specs.Types.{lesser, smallest, breaks}
-use Rattle.wat_check.specs.Rules.{column_type, type_at, type_named, goes_into, misfits, wrong_type}
+use Rattle.wat_rules.specs.declared.typing.ExprType.{ExprType}
+use Rattle.wat_rules.specs.declared.typing.ExprType.TheVariants.{Null}
+use Rattle.wat_rules.specs.Refusals.{first}
+use Rattle.wat_rules.specs.Types.{lesser, smallest, breaks}
+use Rattle.wat_rules.specs.Rules.{column_type, type_at, type_named, goes_into, misfits, wrong_type}
 
 -- ---- lists of refusals
 

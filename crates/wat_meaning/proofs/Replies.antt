@@ -15,9 +15,9 @@ use Rattle.wat_schema.specs.declared.refusal.Refusal.{Refusal}
 use Rattle.wat_schema.specs.declared.refusal.Refusal.TheVariants.{NoTable, Arithmetic}
 use Rattle.wat_schema.specs.Catalog.{Name}
 use Rattle.wat_schema.specs.Tables.{Table, Tables, catalog_of}
-use Rattle.wat_check.specs.Refusals.{first}
-use Rattle.wat_check.specs.Check.{check, refusals, unless}
-use Rattle.wat_check.specs.Places.{placed_statement}
+use Rattle.wat_rules.specs.Refusals.{first}
+use Rattle.wat_rules.specs.Check.{check, refusals, unless}
+use Rattle.wat_rules.specs.Places.{placed_statement}
 use Rattle.wat_group.specs.declared.answer.Finished.{Finished}
 use Rattle.wat_group.specs.declared.answer.Finished.TheVariants as finished
 use Rattle.wat_group.specs.Query.{Row}

@@ -7,7 +7,7 @@ use Rattle.wat_ast.specs.declared.statement.Statement.TheVariants.{CreateTable, 
 use Rattle.wat_schema.specs.Catalog.{repeats}
 use Rattle.wat_schema.specs.Definitions.{same_name}
 use Rattle.wat_schema.specs.Tables.{Table, Tables}
-use Rattle.wat_check.specs.Changes.{keys_of}
+use Rattle.wat_rules.specs.Changes.{keys_of}
 use Rattle.wat_meaning.specs.declared.reply.Reply.{Reply}
 use Rattle.wat_meaning.specs.declared.reply.Reply.TheVariants.{Inserted, Updated, Deleted}
 

@@ -5,7 +5,7 @@ ghost use Rattle.wat_ast.specs.declared.statement.Statement.{Statement};
 ghost use Rattle.wat_ast.specs.declared.statement.Statement.TheVariants.{Select};
 ghost use Rattle.wat_schema.specs.declared.refusal.Refusal.{Refusal};
 ghost use Rattle.wat_schema.specs.Tables.{Tables, apply, apply_all, are_tables, catalog_of, no_tables};
-ghost use Rattle.wat_check.specs.Check.{check};
+ghost use Rattle.wat_rules.specs.Check.{check};
 ghost use Rattle.wat_meaning.specs.declared.reply.Reply.TheVariants.{Refused};
 ghost use Rattle.wat_meaning.specs.Meaning.{meaning};
 ghost use Rattle.wat_meaning.specs.Standing.{have_distinct_names, lists_columns, rows_counted};

@@ -7,7 +7,7 @@
 ghost use Rattle.std.specs.Prelude.{◌≡◌, ◌≤◌, true, length, IsSome};
 ghost use Rattle.std.specs.List.{Contains};
 ghost use Rattle.wat_parse.specs.Statements.{statements_of};
-ghost use Rattle.wat_check.specs.Changes.{change_of, changes_schema};
+ghost use Rattle.wat_rules.specs.Changes.{change_of, changes_schema};
 
 mod database;
 mod printing;
@@ -17,7 +17,7 @@ use crate::printing::printed_refusal;
 use std::alloc::{AllocError, Global};
 use std::{fs, io};
 use wat_ast::Statement;
-use wat_check::{CheckRefusal, check};
+use wat_rules::{CheckRefusal, check};
 use wat_parse::{ParseRefusal, Span, statement, statements};
 
 /// What is shown of a statement that is checked through.

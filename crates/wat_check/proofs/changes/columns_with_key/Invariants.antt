@@ -1,6 +1,0 @@
-use Rattle.std.proofs.Common.{◌≡◌, map, take}
-use Rattle.wat_check.specs.Changes.{with_key}
-use Rattle.wat_check.proofs.changes.columns_with_key.Given as goal
-
-abbrev pub invariant-loop-column : goal.invariant-loop-column
-invariant-loop-column l = l.made ≡ map (with_key l.fn.key) (take l.column-index l.fn.columns)

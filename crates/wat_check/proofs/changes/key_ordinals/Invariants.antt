@@ -1,7 +1,0 @@
-use Rattle.std.proofs.Common.{◌≡◌, take}
-use Rattle.std.specs.List.{filter_map}
-use Rattle.wat_check.specs.Changes.{ordinal_in}
-use Rattle.wat_check.proofs.changes.key_ordinals.Given as goal
-
-abbrev pub invariant-loop-name : goal.invariant-loop-name
-invariant-loop-name l = l.ordinals ≡ filter_map (ordinal_in l.fn.columns) (take l.name-index l.fn.key)

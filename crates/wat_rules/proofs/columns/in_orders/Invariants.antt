@@ -1,0 +1,12 @@
+use Rattle.std.proofs.Common.{◌≡◌, drop}
+use Rattle.std.specs.List.{flat_map, filter_map}
+use Rattle.wat_ast.specs.declared.query.OrderItem.{OrderItem}
+use Rattle.wat_walk.specs.Queries.{maybe, order_column}
+use Rattle.wat_rules.specs.Refusals.{first}
+use Rattle.wat_rules.specs.Columns.{in_expressions}
+use Rattle.wat_rules.proofs.columns.in_orders.Given as goal
+
+abbrev pub invariant-loop-item : goal.invariant-loop-item
+invariant-loop-item l =
+    first (flat_map (λ (item : OrderItem). in_expressions l.fn.schema l.fn.scope (maybe (order_column item))) (drop l.item-index l.fn.order))
+    ≡ first (in_expressions l.fn.schema l.fn.scope (filter_map order_column l.fn.order))
