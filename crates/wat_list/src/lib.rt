@@ -3,12 +3,12 @@
 
 mod copied;
 mod items;
+mod laws;
 mod reserved;
-#[cfg(test)]
-mod tests;
 
 pub use copied::Copied;
 pub use items::item;
+pub use laws::once_law;
 pub use reserved::Reserved;
 pub use sqlite_items::{Boxed, Items};
 

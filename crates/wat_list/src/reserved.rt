@@ -1,4 +1,4 @@
-ghost use Rattle.std.specs.Prelude.{◌≡◌, ◌+◌, ◌<◌, ◌≤◌, ◌↔◌, [], ◌∷◌, ◌++◌, length, IsTrue, IsOk, OnOk, OnErr};
+ghost use Rattle.std.specs.Prelude.{◌≡◌, ◌+◌, ◌<◌, ◌≤◌, ◌↔◌, [], ◌∷◌, ◌++◌, Some, length, slice_get, IsTrue, IsOk, IfOk, OnOk, OnErr};
 
 use crate::NoMemory;
 use sqlite_items::Items;
@@ -35,6 +35,7 @@ impl<T> Reserved<T> {
         }
     }
 
+    /// The items in order.
     pub fn as_slice(&self) -> &[T]
         ensures { result.now ≡ self.now.items }
     {
@@ -53,6 +54,14 @@ impl<T> Reserved<T> {
         self.items.is_empty()
     }
 
+    /// The item at `i`, counted from 0.
+    pub fn get(&self, i: usize) -> &T
+        requires { i < length self.now.items }
+        ensures { slice_get self.now.items i ≡ Some result.now }
+    {
+        &self.items[i]
+    }
+
     /// The items alone; the room is given up.
     pub fn into_items(self) -> Items<T>
         ensures { result ≡ self.items }
@@ -63,6 +72,16 @@ impl<T> Reserved<T> {
 }
 
 impl<T: Drop> Reserved<T> {
+    /// An empty list with room for `n` items at least.
+    pub fn with_room(alloc: Global, n: usize) -> Result<Self, NoMemory>
+        ensures items { IfOk result (λ list. list.items ≡ []) }
+        ensures room { IfOk result (λ list. n ≤ list.spare) }
+    {
+        let mut list = Reserved::new(alloc);
+        list.reserve(n)?;
+        Ok(list)
+    }
+
     /// Makes room for `n` more items. Where there is room already it takes no memory.
     pub fn reserve(&mut self, n: usize) -> Result<(), NoMemory>
         ensures items { self.new.items ≡ self.old.items }
@@ -83,5 +102,17 @@ impl<T: Drop> Reserved<T> {
             Ok(()) => {}
             Err(_) => unreachable!(),
         }
+    }
+
+    /// Adds an item at the end, with memory of its own where no room is left.
+    pub fn try_push(&mut self, item: T) -> Result<(), NoMemory>
+        ensures ok { OnOk result (self.new.items ≡ self.old.items ++ item ∷ []) }
+        ensures err { OnErr result (self.new.items ≡ self.old.items) }
+        ensures had_room { 0 < self.old.spare → IsOk result }
+        ensures spare { self.old.spare ≤ self.new.spare + 1 }
+    {
+        self.reserve(1)?;
+        self.push(item);
+        Ok(())
     }
 }

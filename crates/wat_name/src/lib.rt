@@ -2,7 +2,5 @@
 #![tactic(auto)]
 
 mod name;
-#[cfg(test)]
-mod tests;
 
 pub use name::Name;

@@ -10,12 +10,13 @@ use Rattle.std.specs.Str.{IsUtf8}
 use Rattle.std.specs.Prelude.{IfOk, IfSome, IfNone}
 use Rattle.std.specs.declared.alloc.AllocError.{AllocError}
 use Rattle.std.specs.List.{flat_map, AllByRecursion}
-use Rattle.std.specs.Int.{w16, w64, cast_signed, from_be_bytes}
-use Rattle.byteorder.specs.Endian.{big_bytes, big_number}
+use Rattle.std.specs.Int.{w16, w64, cast_signed, from_be_bytes, to_be_bytes}
+use Rattle.byteorder.specs.Endian.{big_number}
 use Rattle.byteorder.specs.Numbers.{big_from-take, big_from-lt}
 use Rattle.wat_value.specs.declared.value.Value.{Value}
 use Rattle.wat_value.specs.declared.value.Value.TheVariants.{Null, Int, Text}
-use Rattle.wat_value.specs.Encoding.{count_bytes, int_bytes, text_bytes, value_bytes, row_bytes, IsEncodableValue, IsEncodable, SpellsText, SpellsValue, Spells, SpellsNoText, SpellsNoValue, SpellsNone}
+use Rattle.wat_value.specs.Encoding.{count_bytes, int_bytes, text_bytes, value_bytes, row_bytes, IsEncodableValue, IsEncodable, Spells, SpellsNone}
+use Rattle.wat_value.specs.EncodingParts.{SpellsText, SpellsValue, SpellsNoText, SpellsNoValue}
 use Rattle.wat_value.proofs.EncodingLemmas.{count_bytes-read, other_tag, tail_same, length-count_bytes, length-int_bytes, count_bytes-cancel, value_bytes-cancel, values_apart, row_apart, row_bytes-cancel}
 
 -- a part of bytes from the front is bytes
@@ -44,7 +45,7 @@ count_bytes-of xs long bytes =
 pub int_bytes-of : (xs : List ℕ) → 8 ≤ length xs → ((i : ℕ) → get_or xs i 0 < 256) → int_bytes (cast_signed w64 (big_number 8 xs)) ≡ take 8 xs
 unfolding int_bytes
 int_bytes-of xs long bytes =
-    ap (λ n. big_bytes 8 n) (of_z-to_z w64 (big_number 8 xs) (big_from-lt 0 8 xs bytes))
+    ap (λ n. to_be_bytes w64 n) (of_z-to_z w64 (big_number 8 xs) (big_from-lt 0 8 xs bytes))
     ∙ be_bytes_8 (take 8 xs) (big_number 8 xs) (length-take-le 8 xs long) (below_take 8 xs bytes) (sym (big_from-take 0 8 8 xs (omega arith)) ∙ eight_read (take 8 xs))
 
 -- fewer than two bytes begin with no count

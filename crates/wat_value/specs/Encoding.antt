@@ -1,19 +1,18 @@
 -- The bytes of values and of rows.
 use Rattle.std.specs.Prelude.{◌≡◌, ℕ, ℤ, ◌+◌, ◌<◌, ◌≤◌, ◌^◌, List, [], ◌∷◌, ◌++◌, length, take, sum_by, FitsSigned}
 use Rattle.std.specs.List.{flat_map, AllByRecursion}
-use Rattle.std.specs.Int.{w64, cast_unsigned}
+use Rattle.std.specs.Int.{w16, w64, cast_unsigned, to_be_bytes}
 use Rattle.std.specs.Str.{IsUtf8}
-use Rattle.byteorder.specs.Endian.{big_bytes}
 use Rattle.wat_value.specs.declared.value.Value.{Value}
 use Rattle.wat_value.specs.declared.value.Value.TheVariants.{Null, Int, Text}
 
 -- a count, or a length, below 65,536: 2 bytes, the highest first
 unfoldable pub count_bytes : ℕ → List ℕ
-count_bytes n = big_bytes 2 n
+count_bytes n = to_be_bytes w16 n
 
 -- an integer of 64 bits in two's complement: 8 bytes, the highest first
 unfoldable pub int_bytes : ℤ → List ℕ
-int_bytes n = big_bytes 8 (cast_unsigned w64 n)
+int_bytes n = to_be_bytes w64 (cast_unsigned w64 n)
 
 -- a text: its length, and its bytes
 abbrev pub text_bytes : List ℕ → List ℕ
@@ -60,32 +59,11 @@ pub record IsEncodable (row : List Value) : Type 0 where
   pub count : length row < 2 ^ 16
   pub values : AllByRecursion IsEncodableValue row
 
--- the first n bytes spell the text, behind its length
-pub record SpellsText (bytes text : List ℕ) (n : ℕ) : Type 0 where
-  pub within : n ≤ length bytes
-  pub spelled : take n bytes ≡ text_bytes text
-  pub short : length text < 2 ^ 16
-  pub utf8 : IsUtf8 text
-
--- the first n bytes spell the value
-pub record SpellsValue (bytes : List ℕ) (value : Value) (n : ℕ) : Type 0 where
-  pub within : n ≤ length bytes
-  pub spelled : take n bytes ≡ value_bytes value
-  pub encodable : IsEncodableValue value
-
 -- the first n bytes spell the row
 pub record Spells (bytes : List ℕ) (row : List Value) (n : ℕ) : Type 0 where
   pub within : n ≤ length bytes
   pub spelled : take n bytes ≡ row_bytes row
   pub encodable : IsEncodable row
-
--- the bytes begin with no text's bytes
-abbrev pub SpellsNoText : List ℕ → Type 0
-SpellsNoText bytes = (text : List ℕ) → length text < 2 ^ 16 → IsUtf8 text → (rest : List ℕ) → bytes ≡ text_bytes text ++ rest → ⊥
-
--- the bytes begin with no value's bytes
-abbrev pub SpellsNoValue : List ℕ → Type 0
-SpellsNoValue bytes = (value : Value) → IsEncodableValue value → (rest : List ℕ) → bytes ≡ value_bytes value ++ rest → ⊥
 
 -- the bytes begin with no row's bytes
 abbrev pub SpellsNone : List ℕ → Type 0

@@ -1,5 +1,5 @@
 -- Whether a row fits the definition of its table.
-use Rattle.std.specs.Prelude.{ℕ, pos, negsuc, int_le, nat_lt, Bool, true, false, not, ◌&&◌, List, length, map, slice_index_or}
+use Rattle.std.specs.Prelude.{ℕ, ℤ, pos, negsuc, int_le, nat_lt, Bool, true, false, not, ◌&&◌, List, length, map, slice_index_or}
 use Rattle.std.specs.Cmp.Lexicographic.{pointwise}
 use Rattle.wat_value.specs.declared.value.Value.{Value}
 use Rattle.wat_value.specs.declared.value.Value.TheVariants.{Null, Int, Text}
@@ -35,11 +35,17 @@ has_type kind (Text t) = is_textual kind
 abbrev pub is_missing : Column → Value → Bool
 is_missing column value = is_null value && not column.nullable
 
--- an integer outside 32 bits
-abbrev pub is_out_of_range : Value → Bool
-is_out_of_range (Int n) = not (int_le (negsuc 2147483647) n && int_le n (pos 2147483647))
-is_out_of_range Null = false
-is_out_of_range (Text t) = false
+-- an integer is one of the kind's: an INTEGER has 32 bits
+abbrev pub is_in_range : Kind → ℤ → Bool
+is_in_range Integer n = int_le (negsuc 2147483647) n && int_le n (pos 2147483647)
+is_in_range (Char most) n = true
+is_in_range (Varchar most) n = true
+
+-- an integer outside its column's range
+abbrev pub is_out_of_range : Kind → Value → Bool
+is_out_of_range kind (Int n) = not (is_in_range kind n)
+is_out_of_range kind Null = false
+is_out_of_range kind (Text t) = false
 
 -- a text longer than its column allows
 abbrev pub is_too_long : Kind → Value → Bool
@@ -50,7 +56,7 @@ is_too_long kind (Int n) = false
 -- the value passes the tests of its column: by type, Null, range and length
 abbrev pub fits_column : Column → Value → Bool
 fits_column column value =
-    has_type column.kind value && not (is_missing column value) && not (is_out_of_range value) && not (is_too_long column.kind value)
+    has_type column.kind value && not (is_missing column value) && not (is_out_of_range column.kind value) && not (is_too_long column.kind value)
 
 -- the row has one value per column, and each passes the tests of its column
 abbrev pub fits : TableDef → List Value → Bool

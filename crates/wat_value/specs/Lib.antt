@@ -1,5 +1,11 @@
 pub mod Bounds
+pub mod Changes
 pub mod Encoding
+pub mod EncodingParts
 pub mod Fits
+pub mod Hashing
+pub mod HashingLaws
+pub mod Indexes
 pub mod Order
 pub mod OrderLaws
+pub mod Widths

@@ -1,7 +1,8 @@
 ghost use Rattle.std.specs.Prelude.{◌≡◌, take};
 ghost use Rattle.wat_value.specs.Bounds.{holds, is_above, is_below, prefix_cmp};
 
-use crate::value::{Key, Value};
+use crate::key::Key;
+use crate::value::Value;
 use std::alloc::Global;
 use std::cmp::Ordering;
 use wat_list::{Copied, NoMemory};
@@ -21,13 +22,6 @@ pub struct Interval {
     pub upper: Bound,
 }
 
-/// A position of an index: at a key, or behind all keys.
-#[derive(Debug, Drop)]
-pub enum Place {
-    At(Key),
-    End,
-}
-
 fn prefix(key: &[Value], len: usize) -> &[Value]
     ensures { result.now ≡ take len key.now }
 {
@@ -41,7 +35,9 @@ fn compare_prefix(key: &Key, bound: &Key) -> Ordering
 }
 
 impl Bound {
-    fn is_below(&self, key: &Key) -> bool
+    /// Whether the bound, as a lower one, admits the key: a bound is compared with as many of the
+    /// key's first values as it has itself.
+    pub fn admits(&self, key: &Key) -> bool
         ensures { result ≡ is_above self.now key.now }
     {
         match self {
@@ -63,12 +59,11 @@ impl Bound {
 }
 
 impl Interval {
-    /// Whether the key is between the bounds. A bound is compared with as many of the key's first
-    /// values as it has itself.
+    /// Whether the key is between the bounds.
     pub fn holds(&self, key: &Key) -> bool
         ensures { result ≡ holds self.now key.now }
     {
-        self.lower.is_below(key) && self.upper.is_above(key)
+        self.lower.admits(key) && self.upper.is_above(key)
     }
 }
 
@@ -93,17 +88,5 @@ impl Copied for Interval {
         let lower = self.lower.copy(alloc)?;
         let upper = self.upper.copy(alloc)?;
         Ok(Interval { lower, upper })
-    }
-}
-
-impl Copied for Place {
-    fn copy(&self, alloc: Global) -> Result<Self, NoMemory> {
-        match self {
-            Place::At(key) => {
-                let key = key.copy(alloc)?;
-                Ok(Place::At(key))
-            }
-            Place::End => Ok(Place::End),
-        }
     }
 }

@@ -1,7 +1,7 @@
-ghost use Rattle.std.specs.Prelude.{◌≡◌, ℕ, ◌+◌, ◌<◌, ◌≤◌, ◌^◌, List, ◌++◌, length, take, Some, IfOk, IfSome, IfNone, MatchOption};
-ghost use Rattle.std.specs.Str.{IsUtf8};
+ghost use Rattle.std.specs.Prelude.{◌≡◌, ℕ, List, ◌++◌, length, Some, IfOk, IfSome, IfNone, MatchOption};
 ghost use Rattle.wat_value.specs.declared.value.Value.{Value};
-ghost use Rattle.wat_value.specs.Encoding.{text_bytes, row_bytes, IsEncodable, SpellsValue, Spells, SpellsNoValue, SpellsNone, SpellsText, SpellsNoText};
+ghost use Rattle.wat_value.specs.Encoding.{row_bytes, IsEncodable, Spells, SpellsNone};
+ghost use Rattle.wat_value.specs.EncodingParts.{SpellsValue, SpellsNoValue, SpellsText, SpellsNoText};
 
 use crate::encoding::{INT, NULL, TEXT};
 use crate::text::Text;

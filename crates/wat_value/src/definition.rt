@@ -1,6 +1,7 @@
-ghost use Rattle.std.specs.Prelude.{◌≡◌};
-ghost use Rattle.wat_value.specs.Fits.{fits, fits_column};
+ghost use Rattle.std.specs.Prelude.{◌≡◌, ◌++◌, IfOk, OnOk};
+ghost use Rattle.wat_value.specs.Fits.{fits, fits_column, key_of, value_in, values_in};
 
+use crate::key::Key;
 use crate::value::{Row, Value};
 use std::alloc::Global;
 use wat_list::{Copied, Items, NoMemory, item};
@@ -82,6 +83,49 @@ pub fn fits(def: &TableDef, row: &Row) -> bool
         }
     }
     true
+}
+
+fn value_in(alloc: Global, row: &[Value], column: u8) -> Result<Value, NoMemory>
+    ensures { IfOk result (λ value. value ≡ value_in row.now column) }
+{
+    match row.get(column as usize) {
+        Some(value) => value.copy(alloc),
+        None => Ok(Value::Null),
+    }
+}
+
+fn push_values(alloc: Global, row: &[Value], columns: &[u8], key: &mut Key) -> Result<(), NoMemory>
+    ensures { OnOk result (key.new ≡ key.old ++ values_in row.now columns.now) }
+{
+    for column in columns {
+        let value = value_in(alloc, row, *column)?;
+        key.push(value)?;
+    }
+    Ok(())
+}
+
+impl TableDef {
+    /// The primary key of a row. A value past the row's last one is Null.
+    pub fn key_of(&self, alloc: Global, row: &Row) -> Result<Key, NoMemory>
+        ensures { IfOk result (λ key. key ≡ key_of self.now row.now) }
+    {
+        let mut key = Key::new(alloc);
+        push_values(alloc, row.as_slice(), self.key.as_slice(), &mut key)?;
+        Ok(key)
+    }
+}
+
+impl IndexDef {
+    /// The key in the index of a row of its table: the values of its columns, followed by the
+    /// primary key.
+    pub fn key_of(&self, alloc: Global, table: &TableDef, row: &Row) -> Result<Key, NoMemory>
+        ensures { IfOk result (λ key. key ≡ values_in row.now (self.now.columns ++ table.now.key)) }
+    {
+        let mut key = Key::new(alloc);
+        push_values(alloc, row.as_slice(), self.columns.as_slice(), &mut key)?;
+        push_values(alloc, row.as_slice(), table.key.as_slice(), &mut key)?;
+        Ok(key)
+    }
 }
 
 impl Copied for Kind {

@@ -1,4 +1,4 @@
-ghost use Rattle.std.specs.Prelude.{◌≡◌, ◌<◌, ◌≤◌, ◌^◌, ◌++◌, length, take, vec_len, ◌↔◌, IsTrue, OnOk, OnErr};
+ghost use Rattle.std.specs.Prelude.{◌≡◌, ◌<◌, ◌^◌, ◌++◌, take, vec_len, ◌↔◌, IsTrue, OnOk, OnErr};
 ghost use Rattle.wat_value.specs.Encoding.{count_bytes, int_bytes, value_bytes, row_bytes, IsShort, IsShortValue, IsEncodable, IsEncodableValue};
 
 use crate::value::{Row, Value};

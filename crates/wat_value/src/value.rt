@@ -1,13 +1,15 @@
-ghost use Rattle.std.specs.Prelude.{◌≡◌, ◌↔◌, List, refl};
-ghost use Rattle.std.specs.Cmp.{IsTotalOrder, partial_order_from_total, partial_equiv_from_equiv, eq_by_cmp_equiv};
+ghost use Rattle.std.specs.Prelude.{◌≡◌, refl};
+ghost use Rattle.std.specs.Cmp.{partial_order_from_total, partial_equiv_from_equiv, eq_by_cmp_equiv};
 ghost use Rattle.std.specs.Ordering.{as_partial_cmp};
 ghost use Rattle.wat_value.specs.Order.{key_cmp, value_cmp, value_eq};
 ghost use Rattle.wat_value.specs.OrderLaws.{value_cmp_total};
-ghost use Rattle.wat_value.specs.declared.value.Value.{Value};
+ghost use Rattle.wat_value.specs.Hashing.{value_hash};
+ghost use Rattle.wat_value.specs.HashingLaws.{value_hash_alike};
 
 use crate::text::Text;
 use std::alloc::Global;
 use std::cmp::Ordering;
+use std::hash::{Hash, Hasher};
 use wat_list::{Copied, Items, NoMemory};
 
 /// A value of a column, or of an expression.
@@ -22,11 +24,6 @@ pub enum Value {
 pub type Row = Items<Value>;
 
 pub type Rows = Items<Row>;
-
-/// The values of an index's columns, or of the first few of them.
-pub type Key = Items<Value>;
-
-pub type Keys = Items<Key>;
 
 /// A row, or nothing, for each source of a query, in the order as written.
 pub type Combination = Items<Option<Row>>;
@@ -99,18 +96,29 @@ impl Eq for Value {
     ghost laws = { eq_by_cmp_equiv value_cmp_total };
 }
 
-/// The order of keys, and of rows: value by value, and a key before each longer one that begins
-/// with it.
-pub fn compare_keys(key: &Key, other: &Key) -> Ordering
-    ensures { result ≡ key_cmp key.now other.now }
-{
-    key.as_slice().cmp(other.as_slice())
+impl Hash for Value {
+    ghost hash_input = { value_hash };
+
+    ghost respects_eq = { value_hash_alike };
+
+    fn hash<H: Hasher>(&self, state: &mut H) {
+        match self {
+            Value::Null => state.write_u8(0),
+            Value::Int(n) => {
+                state.write_u8(1);
+                state.write_i64(*n);
+            }
+            Value::Text(text) => {
+                state.write_u8(2);
+                text.hash(state);
+            }
+        }
+    }
 }
 
-/// The orders of values and of keys are total, and only the same are level in them.
-pub fn order_laws()
-    ensures total { IsTotalOrder value_cmp }
-    ensures level { (v w : Value) → (value_cmp v w ≡ Ordering.Equal) ↔ (v ≡ w) }
-    ensures keys_total { IsTotalOrder key_cmp }
-    ensures keys_level { (a b : List Value) → (key_cmp a b ≡ Ordering.Equal) ↔ (a ≡ b) }
-{}
+/// The order of rows: value by value, and a row before each longer one that begins with it.
+pub fn compare_rows(row: &[Value], other: &[Value]) -> Ordering
+    ensures { result ≡ key_cmp row.now other.now }
+{
+    row.cmp(other)
+}

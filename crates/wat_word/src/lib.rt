@@ -2,8 +2,6 @@
 #![tactic(auto)]
 
 mod keyword;
-#[cfg(test)]
-mod tests;
 mod word;
 
 pub use keyword::{Keyword, keyword_of, reserved_laws};

@@ -2,7 +2,8 @@ use Rattle.std.proofs.Common.{◌≡◌, ◌++◌, [], ◌∷◌, length, refl, 
 use Rattle.std.proofs.Math.Facts.{Fits-lt-pow}
 use Rattle.std.proofs.lemmas.List.{take_rest, length-drop}
 use Rattle.std.specs.List.{flat_map}
-use Rattle.wat_value.specs.Encoding.{count_bytes, value_bytes, SpellsValue, SpellsNoValue}
+use Rattle.wat_value.specs.Encoding.{count_bytes, value_bytes}
+use Rattle.wat_value.specs.EncodingParts.{SpellsValue, SpellsNoValue}
 use Rattle.wat_value.proofs.DecodingLemmas.{no_row_in, no_row, one_more, all_more, count_spelled}
 use Rattle.wat_value.proofs.decoding.decode_row.Goals as goal
 
