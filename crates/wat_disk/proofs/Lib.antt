@@ -1,4 +1,5 @@
 pub mod Stops
+pub mod Writes
 pub mod Record
 mod Room
 mod Picked

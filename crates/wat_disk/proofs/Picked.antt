@@ -7,12 +7,14 @@ use Rattle.std.proofs.lemmas.List.{take_min, drop_all, length-replicate}
 use Rattle.wat_disk.specs.declared.memory.Entry.{Entry}
 use Rattle.wat_disk.specs.declared.replay.Pick.{Pick}
 use Rattle.wat_disk.specs.declared.replay.Pick.TheVariants.{Old, New, Torn as TornTo}
-use Rattle.wat_disk.specs.Acts.{Act, Wrote, Synced, content_after, LeftAfter, either_way}
+use Rattle.wat_disk.specs.Acts.{Act, Wrote, Synced, content_after, LeftAfter}
 use Rattle.wat_disk.specs.Bytes.{written, Torn}
 use Rattle.wat_disk.specs.Disk.{Image}
-use Rattle.wat_disk.specs.Memory.{bytes_at, count_of, count_all, act_of, acts_until}
+use Rattle.wat_disk.specs.Memory.{bytes_at, count_of, act_of, acts_until}
+use Rattle.wat_disk.specs.Kept.{count_all}
 use Rattle.wat_disk.specs.Picks.{pick_written, pick_next, picked_after}
-use Rattle.wat_disk.specs.Writes.{torn_written, torn_same}
+use Rattle.wat_disk.specs.LeftProofs.{torn_written, either_way}
+use Rattle.wat_disk.proofs.Writes.{torn_same}
 
 -- what is picked of a write, a stop may leave
 pick_torn : (pick : Pick) (old bytes : List ℕ) (at : ℕ) → Torn at (length bytes) old (pick_written pick old at bytes)

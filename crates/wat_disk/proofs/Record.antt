@@ -9,12 +9,14 @@ use Rattle.std.proofs.lemmas.List.Elements.{recursion_from_All, All-from_recursi
 use Rattle.wat_disk.specs.declared.memory.Entry.{Entry}
 use Rattle.wat_disk.specs.declared.memory.Deed.{Deed}
 use Rattle.wat_disk.specs.declared.memory.Deed.TheVariants.{Write, Sync}
-use Rattle.wat_disk.specs.Acts.{Act, Wrote, Synced, content_after, LeftAfter, content_is_left}
+use Rattle.wat_disk.specs.Acts.{Act, Wrote, Synced, content_after, LeftAfter}
+use Rattle.wat_disk.specs.LeftProofs.{content_is_left}
 use Rattle.wat_disk.specs.Bytes.{written, Torn}
-use Rattle.wat_disk.specs.Disk.{Image, Told, Leaves, InFile, SameFiles, EachStop, IsSynced}
-use Rattle.wat_disk.specs.Writes.{torn_same}
+use Rattle.wat_disk.specs.Disk.{Image, Told, Leaves, InFile, SameFiles, EachStop, StillLeaves, IsSynced}
+use Rattle.wat_disk.proofs.Writes.{torn_same}
 use Rattle.wat_disk.proofs.Stops.{weaker}
-use Rattle.wat_disk.specs.Memory.{bytes_at, count_of, count_all, act_of, acts_until, IsUsable, IsRecord, told_by}
+use Rattle.wat_disk.specs.Memory.{bytes_at, count_of, act_of, acts_until, told_by}
+use Rattle.wat_disk.specs.Kept.{count_all, IsUsable, IsRecord}
 
 pub bytes_at-set_same : (files : List (Vec ℕ Global)) (i : ℕ) (held : Vec ℕ Global) → i < length files → bytes_at (set files i held) i ≡ held.items
 bytes_at-set_same [] i held short = absurd (omega arith)
@@ -110,6 +112,11 @@ module _ (base : List (Vec ℕ Global)) (entries : List Entry) (bytes : List ℕ
     each = λ t image from to left.
         (image, (λ file. subst (λ (acts : List Act). LeftAfter (bytes_at base) acts file (image file)) (until_later t moment entries bytes past from) (left file)), (λ file. refl));
   }
+
+  -- such a call leaves what may be left
+  pub still_left : (files same : List (Vec ℕ Global)) (faults more later : ℕ) → moment ≤ later → StillLeaves (told_by base files entries bytes moment faults) (told_by base same entries bytes later more)
+  still_left files same faults more later le image left file =
+      subst (λ (acts : List Act). LeftAfter (bytes_at base) acts file (image file)) (sym (until_later later moment entries bytes past le)) (left file)
 
   module _ (kept : length bytes ≡ count_all entries) (more : List ℕ) (new_entry : Entry) (stamp : new_entry.moment ≡ moment + 1) (files new_files : List (Vec ℕ Global)) (faults new_faults : ℕ) where
     -- up to the call all is as it was

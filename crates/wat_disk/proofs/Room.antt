@@ -4,7 +4,7 @@ use Rattle.std.specs.Prelude.{Vec, All, vec_len, vec_capacity}
 use Rattle.std.specs.declared.alloc.Global.{Global}
 use Rattle.std.proofs.lemmas.List.Elements.{All-set, All-get_or}
 use Rattle.wat_disk.specs.Bytes.{written}
-use Rattle.wat_disk.specs.Writes.{length-written}
+use Rattle.wat_disk.specs.LeftProofs.{length-written}
 use Rattle.wat_disk.specs.Memory.{bytes_at, bytes_needed}
 use Rattle.wat_disk.proofs.Record.{bytes_at-read}
 

@@ -1,7 +1,9 @@
 pub mod Acts
 pub mod Bytes
 pub mod Disk
+pub mod FileNames
+pub mod Kept
+pub mod LeftProofs
 pub mod Memory
 pub mod MemoryDisk
 pub mod Picks
-pub mod Writes

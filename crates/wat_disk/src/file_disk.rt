@@ -1,5 +1,8 @@
 // The disk of a real program: eight files of the current folder.
 ghost use Rattle.std.specs.Prelude.{◌≡◌, ◌+◌, ◌<◌, ◌≤◌, ◌^◌, ◌-◌, ◌↔◌, [], min, length, IsTrue, IfOk};
+ghost use Rattle.std.specs.Bool.{OnFalse};
+ghost use Rattle.wat_faults.specs.Faults.{counted};
+ghost use Rattle.wat_disk.specs.FileNames.{file_name};
 
 use crate::{Disk, DiskError, FileId};
 use std::fs::{Metadata, OpenFile, OpenOptions};
@@ -7,8 +10,11 @@ use std::io::{ErrorKind, Read, Seek, SeekFrom, Write};
 use std::rt::Files;
 use std::{fs, io};
 
-// The names of the files, by their numbers.
-fn name_of(file: FileId) -> &'static str {
+// The name of a file, by its number.
+fn name_of(file: FileId) -> &'static str
+    requires { file.0 < 8 }
+    ensures { result.now ≡ file_name file.0 }
+{
     match file.0 {
         0 => "main.wat",
         1 => "before.wat",
@@ -47,7 +53,9 @@ fn length_of<R: Files>(rt: &R, name: &str) -> io::Result<u64> {
 }
 
 // Whether the bytes are there, and then it has read them.
-fn read_from<R: Files>(rt: &R, name: &str, at: u64, into: &mut [u8]) -> io::Result<bool> {
+fn read_from<R: Files>(rt: &R, name: &str, at: u64, into: &mut [u8]) -> io::Result<bool>
+    ensures { IfOk result (λ there. OnFalse there (into.new ≡ into.old)) }
+{
     let length = length_of(rt, name)?;
     if at > length || into.len() as u64 > length - at {
         return Ok(false);
@@ -76,8 +84,11 @@ fn open_or_make<R: Files>(rt: &R, name: &str) -> io::Result<(R::File, bool)> {
     }
 }
 
-// Whether the file was made for the write.
+// Whether the file was made for the write. No bytes within a file leave it as it is, and make none.
 fn write_to<R: Files>(rt: &R, name: &str, at: u64, bytes: &[u8]) -> io::Result<bool> {
+    if bytes.is_empty() && (at == 0 || at <= length_of(rt, name)?) {
+        return Ok(false);
+    }
     let (mut file, made) = open_or_make(rt, name)?;
     let length = file_length(&file.metadata()?)?;
     if at > length {
@@ -102,7 +113,7 @@ fn sync_folder<R: Files>(rt: &R) -> io::Result<()> {
 /// The files `main.wat`, `before.wat`, `log.wat`, `backup.wat`, `copy.wat`, `mirror.wat`, `leader.wat` and `spare.wat` of
 /// the current folder, by their numbers from 0 to 7.
 ///
-/// A file that isn't there reads as empty, and the first write to it makes it. A sync reaches the medium, and takes the
+/// A file that isn't there reads as empty, and the first write to it makes it, unless it is of no bytes at place 0. A sync reaches the medium, and takes the
 /// folder along where a file was made, or where this disk hasn't synced it yet. It tells no content: nothing is proved
 /// of what the operating system keeps. Its count of faults rises where the operating system refuses a call, where
 /// something that is no file has one of these names, and at the last moment.
@@ -152,7 +163,7 @@ impl<'a, R: Files> FileDisk<'a, R> {
 
     fn fault(&mut self)
         ensures moment { self.new.moment ≡ self.old.moment }
-        ensures faults { self.new.faults ≡ min (self.old.faults + 1) (2 ^ 64 - 1) }
+        ensures faults { self.new.faults ≡ counted self.old.faults }
         ensures never_falls { self.old.faults ≤ self.new.faults }
     {
         self.faults = self.faults.saturating_add(1);

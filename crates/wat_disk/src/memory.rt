@@ -2,9 +2,12 @@
 ghost use Rattle.std.specs.Prelude.{◌≡◌, ◌+◌, ◌<◌, ◌≤◌, ◌^◌, ◌↔◌, [], ◌∷◌, ◌++◌, ℕ, ◌==◌, ◌-◌, true, false, min, if◌then◌else◌, length, slice_range, Vec, vec_len, vec_capacity, All, Contains, IsTrue, IsOk, IfOk, OnOk, OnErr, IsErrOf, IsOkUnless};
 ghost use Rattle.std.specs.declared.alloc.Global.{Global};
 ghost use Rattle.wat_disk.specs.Bytes.{written, Torn};
-ghost use Rattle.wat_disk.specs.Disk.{SameFiles, InFile, EachStop, IsSynced, Counts, Rose};
+ghost use Rattle.wat_disk.specs.Disk.{SameFiles, InFile, EachStop, IsSynced, StillLeaves, MakesCalls, Counts};
+ghost use Rattle.wat_faults.specs.Faults.{counted};
 ghost use Rattle.wat_disk.specs.Picks.{picked_after};
-ghost use Rattle.wat_disk.specs.Memory.{bytes_at, bytes_needed, count_of, acts_until, IsRecord, IsRoomy, told_by, reads_as_left};
+ghost use Rattle.wat_disk.specs.Memory.{bytes_at, bytes_needed, count_of, acts_until, told_by};
+ghost use Rattle.wat_disk.specs.Kept.{IsRecord, IsRoomy};
+ghost use Rattle.wat_disk.specs.LeftProofs.{reads_as_left};
 
 use crate::bytes::overwrite;
 use crate::replay::left_at;
@@ -93,10 +96,10 @@ fn write_file(files: &mut Vec<Vec<u8>>, file: u8, at: usize, bytes: &[u8], spare
     overwrite(&mut files[file as usize], at, bytes);
 }
 
-/// Eight files in memory. Each call that fails does nothing.
+/// Eight files in memory. Each call that fails does nothing but to be counted, as a call and as one fault.
 ///
-/// A call fails where its moment is among those that are to fail, a write or a sync also where the room that was made for
-/// it is used up; none of them needs memory.
+/// A call fails where its moment is among those that are to fail, and at the last moment; a write or a sync also where the
+/// room that was made for it is used up. None of them needs memory, and none answers `Memory`.
 #[derive(Drop)]
 pub struct MemoryDisk {
     base: Vec<Vec<u8>>,
@@ -222,6 +225,7 @@ impl MemoryDisk {
         ensures faults { (told_of self.new).faults ≡ (told_of self.old).faults }
         ensures content { SameFiles (told_of self.old).content (told_of self.new).content }
         ensures stops { EachStop (told_of self.old) (told_of self.new) SameFiles }
+        ensures unsynced { StillLeaves (told_of self.old) (told_of self.new) }
         ensures took { Takes 0 0 self.old self.new }
         ensures calls { calls_of self.new ≡ calls_of self.old }
     {
@@ -231,11 +235,12 @@ impl MemoryDisk {
     // A call that fails, and does nothing.
     fn fail(&mut self) -> DiskError
         ensures failed { result ≡ DiskError.Failed }
-        ensures moment { (told_of self.new).moment ≡ min ((told_of self.old).moment + 1) (2 ^ 64 - 1) }
-        ensures rose { Rose (told_of self.old) (told_of self.new) }
+        ensures moment { MakesCalls 1 (told_of self.old) (told_of self.new) }
+        ensures faults { (told_of self.new).faults ≡ counted (told_of self.old).faults }
         ensures never_falls { (told_of self.old).faults ≤ (told_of self.new).faults }
         ensures content { SameFiles (told_of self.old).content (told_of self.new).content }
         ensures stops { EachStop (told_of self.old) (told_of self.new) SameFiles }
+        ensures unsynced { StillLeaves (told_of self.old) (told_of self.new) }
         ensures took { Takes 0 0 self.old self.new }
         ensures calls { calls_of self.new ≡ calls_of self.old }
     {
@@ -256,15 +261,17 @@ impl Disk for MemoryDisk {
 
     ghost reads_as_left = { λ disk tells. reads_as_left disk.base.items disk.files.items disk.entries.items disk.kept.items disk.moment disk.replayable };
 
-    /// As of the trait, and it answers exactly where no call is to fail.
+    /// As of the trait, and it tells the length exactly where the call is not to fail, and else is `Failed`.
     fn length(&mut self, file: FileId) -> Result<u64, DiskError>
         requires { file.0 < 8 }
         ensures length { IfOk result (λ n. n ≡ length ((told_of self.old).content file.0)) }
         ensures content { SameFiles (told_of self.old).content (told_of self.new).content }
         ensures stops { EachStop (told_of self.old) (told_of self.new) SameFiles }
+        ensures unsynced { StillLeaves (told_of self.old) (told_of self.new) }
         ensures counts { Counts (told_of self.old) (told_of self.new) result }
         ensures not_past { IsErrOf result DiskError.Past → ⊥ }
         ensures answers { IsOk result ↔ CanCall self.old }
+        ensures fails { ¬ CanCall self.old → IsErrOf result DiskError.Failed }
         ensures took { Takes 0 0 self.old self.new }
         ensures calls { calls_of self.new ≡ calls_of self.old }
     {
@@ -275,16 +282,23 @@ impl Disk for MemoryDisk {
         Ok(self.bytes(file).len() as u64)
     }
 
-    /// As of the trait, and it reads exactly where no call is to fail and the bytes are there.
+    /// As of the trait, and it reads exactly where the call is not to fail and the bytes are there. A call that is to fail
+    /// is `Failed`, wherever it reads, and one that is not is `Past` where the bytes are not there. After a refusal `into`
+    /// is as before.
     fn read(&mut self, file: FileId, at: u64, into: &mut [u8]) -> Result<(), DiskError>
         requires { file.0 < 8 }
         ensures read { OnOk result (into.new ≡ slice_range ((told_of self.old).content file.0) at (at + length into.old)) }
         ensures within { OnOk result (at + length into.old ≤ length ((told_of self.old).content file.0)) }
         ensures past { IsErrOf result DiskError.Past → length ((told_of self.old).content file.0) < at + length into.old }
+        ensures past_unread { IsErrOf result DiskError.Past → into.new ≡ into.old }
         ensures content { SameFiles (told_of self.old).content (told_of self.new).content }
         ensures stops { EachStop (told_of self.old) (told_of self.new) SameFiles }
+        ensures unsynced { StillLeaves (told_of self.old) (told_of self.new) }
         ensures counts { Counts (told_of self.old) (told_of self.new) result }
         ensures answers { IsOk result ↔ (CanCall self.old × (at + length into.old ≤ length ((told_of self.old).content file.0))) }
+        ensures fails { ¬ CanCall self.old → IsErrOf result DiskError.Failed }
+        ensures goes_past { CanCall self.old → length ((told_of self.old).content file.0) < at + length into.old → IsErrOf result DiskError.Past }
+        ensures unread { OnErr result (into.new ≡ into.old) }
         ensures took { Takes 0 0 self.old self.new }
         ensures calls { calls_of self.new ≡ calls_of self.old }
     {
@@ -301,14 +315,13 @@ impl Disk for MemoryDisk {
         Ok(())
     }
 
-    /// As of the trait, and it writes exactly where no call is to fail, the range is one and there is room.
+    /// As of the trait, and it writes exactly where the call is not to fail, the range ends below 2^64 and there is room.
+    /// Else it is `Failed`, and changes no file.
     fn write_at(&mut self, file: FileId, at: u64, bytes: &[u8]) -> Result<(), DiskError>
         requires { file.0 < 8 }
         ensures written { OnOk result ((told_of self.new).content file.0 ≡ written ((told_of self.old).content file.0) at bytes.now) }
         ensures content { InFile file.0 (Torn at (length bytes.now)) (told_of self.old).content (told_of self.new).content }
         ensures stops { EachStop (told_of self.old) (told_of self.new) (InFile file.0 (Torn at (length bytes.now))) }
-        ensures too_far { 2 ^ 64 ≤ at + length bytes.now → IsErrOf result DiskError.Failed × SameFiles (told_of self.old).content (told_of self.new).content }
-        ensures too_far_stops { 2 ^ 64 ≤ at + length bytes.now → EachStop (told_of self.old) (told_of self.new) SameFiles }
         ensures counts { Counts (told_of self.old) (told_of self.new) result }
         ensures failed_alone { IsOkUnless result DiskError.Failed }
         ensures answers { IsOk result ↔ CanWrite self.old file.0 at (length bytes.now) }
@@ -344,7 +357,7 @@ impl Disk for MemoryDisk {
         Ok(())
     }
 
-    /// As of the trait, and it syncs exactly where no call is to fail and there is room.
+    /// As of the trait, and it syncs exactly where the call is not to fail and there is room.
     fn sync(&mut self, file: FileId) -> Result<(), DiskError>
         requires { file.0 < 8 }
         ensures synced { OnOk result (IsSynced (told_of self.new) file.0) }

@@ -2,7 +2,8 @@
 ghost use Rattle.std.specs.Prelude.{◌≡◌, ◌+◌, ◌<◌, ◌≤◌, ◌^◌, ℕ, [], ◌∷◌, ◌==◌, if◌then◌else◌, length, replicate, All, IfOk, OnOk};
 ghost use Rattle.wat_disk.specs.Bytes.{written};
 ghost use Rattle.wat_disk.specs.Acts.{content_after};
-ghost use Rattle.wat_disk.specs.Memory.{bytes_at, count_of, count_all, act_of, acts_until, IsUsable};
+ghost use Rattle.wat_disk.specs.Memory.{bytes_at, count_of, act_of, acts_until};
+ghost use Rattle.wat_disk.specs.Kept.{count_all, IsUsable};
 ghost use Rattle.wat_disk.specs.Picks.{pick_written, pick_next, picked_after};
 
 use crate::bytes::overwrite;

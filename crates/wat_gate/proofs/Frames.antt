@@ -102,20 +102,23 @@ front-one behind body long has = record {
 pub length-be : (n : ℕ) → length (to_be_bytes w32 n) ≡ 4
 length-be n = refl
 
--- the bytes of a frame are read as its body
-pub has-written : (body tail : List ℕ) → 1 ≤ length body → length body ≤ 2000000 → 0 < length tail → HasBody ((to_be_bytes w32 (length body) ++ body) ++ tail) body
-has-written body tail some short next =
-    let head = to_be_bytes w32 (length body) in
-    let same : (head ++ body) ++ tail ≡ head ++ (body ++ tail) = append_assoc head body tail in
+-- four bytes that tell its length, and a body, are read as that body
+pub has_frame : (size body tail : List ℕ) → length size ≡ 4 → from_be_bytes w32 size ≡ length body → 1 ≤ length body → length body ≤ 2000000 → 0 < length tail → HasBody ((size ++ body) ++ tail) body
+has_frame size body tail four told some short next =
+    let same : (size ++ body) ++ tail ≡ size ++ (body ++ tail) = append_assoc size body tail in
     record {
-      size = ap (λ (l : List ℕ). from_be_bytes w32 (take 4 l)) same ∙ ap (from_be_bytes w32) (take_at head (body ++ tail) 4 (length-be (length body)))
-          ∙ from_be_bytes-to_be_bytes_4 (length body) (omega arith);
+      size = ap (λ (l : List ℕ). from_be_bytes w32 (take 4 l)) same ∙ ap (from_be_bytes w32) (take_at size (body ++ tail) 4 four) ∙ told;
       some = some;
       short = short;
-      room = omega (arith, length-append (head ++ body) tail, length-append head body, length-be (length body));
-      is = sym (ap (λ (l : List ℕ). take (length body) (drop 4 l)) same ∙ ap (take (length body)) (drop_at head (body ++ tail) 4 (length-be (length body)))
+      room = omega (arith, length-append (size ++ body) tail, length-append size body, four);
+      is = sym (ap (λ (l : List ℕ). take (length body) (drop 4 l)) same ∙ ap (take (length body)) (drop_at size (body ++ tail) 4 four)
           ∙ take_at body tail (length body) refl);
     }
+
+-- so are the bytes of a frame as it is written
+pub has-written : (body tail : List ℕ) → 1 ≤ length body → length body ≤ 2000000 → 0 < length tail → HasBody ((to_be_bytes w32 (length body) ++ body) ++ tail) body
+has-written body tail some short next =
+    has_frame (to_be_bytes w32 (length body)) body tail (length-be (length body)) (from_be_bytes-to_be_bytes_4 (length body) (omega arith)) some short next
 
 -- so are the bytes that were read, whatever follows them
 pub has-read : (behind body tail : List ℕ) → HasBody behind body → 0 < length tail → HasBody (take (4 + length body) behind ++ tail) body

@@ -7,7 +7,8 @@ use Rattle.std.specs.Prelude.{MatchOption, slice_range}
 use Rattle.wat_gate.specs.declared.gate_log.GateRefusal.{GateRefusal}
 use Rattle.wat_gate.specs.declared.gate_log.GateRefusal.TheVariants.{DiskFault, Damaged, Memory}
 use Rattle.wat_gate.specs.Refusal.{IfDamaged}
-use Rattle.wat_gate.specs.Bodies.{open_gate, body_of, bodies, frames_len, end_of, gate_place, IsWhole, IsBrokenAt, IsClosedGate, IsOpenGate, IsBrokenGate, IsAtGate}
+use Rattle.wat_gate.specs.Bodies.{open_gate, body_of, bodies, frames_len, end_of, gate_place, IsWhole, IsBrokenAt, IsAtGate}
+use Rattle.wat_gate.specs.Gates.{IsClosedGate, IsOpenGate, IsBrokenGate}
 use Rattle.wat_gate.proofs.Frames.{has_body, body_of-has, bodies-nil, bodies-closed, bodies-open, bodies-broken, frames_len-cons, frames_len-push, either}
 
 -- the first frame of a log that has one

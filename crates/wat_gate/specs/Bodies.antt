@@ -1,4 +1,4 @@
--- What the bytes of a gate log stand for: the bodies behind its open gates, up to the first gate that is closed.
+-- What the bytes of a gate log stand for: a relation of bytes to bodies, and then the function that finds the bodies.
 use Rattle.std.specs.Prelude.{◌≡◌, ◌≢◌, ◌⊎◌, ℕ, zero, suc, ◌+◌, ◌<◌, ◌≤◌, ◌==◌, ◌&&◌, nat_le, nat_lt, List, [], ◌∷◌, ◌++◌, length, take, drop, sum_by, slice_index, Option, Some, None, if◌then◌else◌}
 use Rattle.std.specs.Option.{option_map_or}
 use Rattle.std.specs.Int.{w32, from_be_bytes}
@@ -6,6 +6,27 @@ use Rattle.std.specs.Int.{w32, from_be_bytes}
 -- the byte of an open gate; any other byte is a closed one
 abbrev pub open_gate : ℕ
 open_gate = 0xA5
+
+-- The bytes are a frame and a rest: an open gate, four bytes that tell a length from 1 to 2,000,000, and a body so long.
+pub record IsFrame (body rest content : List ℕ) : Type 0 where
+  pub size : List ℕ
+  pub is : content ≡ open_gate ∷ (size ++ body ++ rest)
+  pub four : length size ≡ 4
+  pub told : from_be_bytes w32 size ≡ length body
+  pub some : 1 ≤ length body
+  pub at_most : length body ≤ 2000000
+
+-- a closed gate, and bytes that mean nothing
+pub record EndsLog (content : List ℕ) : Type 0 where
+  pub gate : ℕ
+  pub rest : List ℕ
+  pub closed : gate ≢ open_gate
+  pub is : content ≡ gate ∷ rest
+
+-- The bytes are a gate log of these bodies: a frame for each of them, and then a closed gate.
+abbrev pub IsGateLog : List (List ℕ) → List ℕ → Type 0
+IsGateLog [] content = EndsLog content
+IsGateLog (body ∷ later) content = (rest : List ℕ) × IsFrame body rest content × IsGateLog later rest
 
 -- the body behind an open gate: four bytes tell its length, and the next gate stands behind it in the file
 unfoldable pub body_of : List ℕ → Option (List ℕ)
@@ -54,21 +75,6 @@ pub record KeepsOrAdds (body : List ℕ) (old new : List ℕ) : Type 0 where
 pub record KeepsOrClears (old new : List ℕ) : Type 0 where
   pub whole : IsWhole new
   pub either : (bodies new ≡ bodies old) ⊎ (bodies new ≡ [])
-
--- What stands at a gate: none that is in the file, a closed one, one that a frame and a next gate follow, or a broken one.
-pub record IsClosedGate (content : List ℕ) (at : ℕ) : Type 0 where
-  pub there : at < length content
-  pub closed : slice_index content at ≢ open_gate
-
-pub record IsOpenGate (content : List ℕ) (at next : ℕ) : Type 0 where
-  pub there : at < length content
-  pub opened : slice_index content at ≡ open_gate
-  pub body : List ℕ
-  pub frame : body_of (drop (at + 1) content) ≡ Some body
-  pub place : next ≡ at + 5 + length body
-
-abbrev pub IsBrokenGate : List ℕ → ℕ → Type 0
-IsBrokenGate content at = (length content ≤ at) ⊎ ((slice_index content at ≡ open_gate) × (body_of (drop (at + 1) content) ≡ None))
 
 -- So many frames stand before this place, and a gate stands there.
 pub record IsAtGate (content : List ℕ) (at i : ℕ) : Type 0 where

@@ -1,5 +1,5 @@
 -- A gate log, and what it knows of its file.
-use Rattle.std.specs.Prelude.{◌≡◌, ℕ, List, [], length, slice_index_or}
+use Rattle.std.specs.Prelude.{◌≡◌, ℕ, ◌+◌, ◌<◌, ◌^◌, List, [], length, slice_index_or}
 use Rattle.wat_disk.specs.Disk.{Told}
 use Rattle.wat_gate.specs.declared.gate_log.GateLog.{GateLog}
 use Rattle.wat_gate.specs.declared.gate_log.GatePlace.{GatePlace}
@@ -30,3 +30,7 @@ pub record IsLogOf (told : Told) (log : GateLog) : Type 0 where
   pub whole : IsWhole (told.content (file_of log))
   pub frames : log.frames ≡ length (bodies_in told log)
   pub end : log.end ≡ end_of (told.content (file_of log))
+
+-- The log ends below 2^64 with a frame of this body too, so that no write of the frame goes too far.
+abbrev pub HasRoom : GateLog → List ℕ → Type 0
+HasRoom log body = log.end + 6 + length body < 2 ^ 64

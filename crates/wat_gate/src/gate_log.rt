@@ -1,10 +1,13 @@
 // A gate log: open gates with their frames, and a closed gate behind them. A frame is written behind the closed gate
 // and synced, and then the gate is opened by a write of its own, and synced.
-ghost use Rattle.std.specs.Prelude.{◌≡◌, ◌↔◌, ◌+◌, ◌<◌, ◌≤◌, ◌^◌, ◌⊎◌, [], ◌∷◌, ◌++◌, take, drop, slice_index, slice_range, length, OnOk, OnErr, IfOk, IfErr, MatchOption, IsErr};
-ghost use Rattle.wat_disk.specs.Disk.{IsSynced, InFile, SameFiles, SameOthers, EachStop, HasCause};
-ghost use Rattle.wat_gate.specs.Bodies.{KeepsOrAdds, KeepsOrClears, IsBrokenAt, gate_place, IsClosedGate, IsOpenGate, IsBrokenGate};
+ghost use Rattle.std.specs.Prelude.{◌≡◌, ◌↔◌, ◌+◌, ◌*◌, ◌<◌, ◌≤◌, ◌^◌, ◌⊎◌, [], ◌∷◌, ◌++◌, take, drop, slice_index, slice_range, length, OnOk, OnErr, IfOk, IfErr, MatchOption, IsOk, IsErr, IsTrue};
+ghost use Rattle.wat_disk.specs.Disk.{IsSynced, InFile, SameFiles, SameOthers, EachStop, StillLeaves, MakesCalls, MakesAtMost};
+ghost use Rattle.wat_faults.specs.Faults.{HasCause};
+ghost use Rattle.wat_gate.specs.Bodies.{KeepsOrAdds, KeepsOrClears, IsBrokenAt, gate_place};
+ghost use Rattle.wat_gate.specs.Gates.{IsClosedGate, IsOpenGate, IsBrokenGate};
 ghost use Rattle.std.specs.Int.{w32, from_be_bytes};
 ghost use Rattle.wat_gate.specs.Refusal.{IfDamaged};
+ghost use Rattle.wat_gate.specs.Written.{appended, cleared};
 
 use crate::Frame;
 use wat_disk::{Disk, DiskError, DiskFault, FileId, write_synced};
@@ -43,10 +46,11 @@ pub struct GateLog {
 }
 
 impl GateLog {
-    ghost use Rattle.wat_gate.specs.GateLog.{file_of, frames_of, bodies_in, body_at, IsLogOf, IsGateOf};
+    ghost use Rattle.wat_gate.specs.GateLog.{file_of, frames_of, bodies_in, body_at, IsLogOf, IsGateOf, HasRoom};
 
-    /// Reads the gates of a file one after another, and changes nothing. `Damaged` tells the gate at which the log is
-    /// broken: one that isn't in the file, or that is open and has no whole frame with a next gate behind it.
+    /// Reads the gates of a file one after another, and changes nothing: two calls and two more for each frame. `Damaged`
+    /// tells the gate at which the log is broken: one that isn't in the file, or that is open and has no whole frame with a
+    /// next gate behind it.
     pub fn open<D: Disk>(disk: &mut D, file: FileId) -> Result<GateLog, GateRefusal>
         requires { file.0 < 8 }
 
@@ -56,7 +60,9 @@ impl GateLog {
 
         ensures content { SameFiles (D.told disk.old).content (D.told disk.new).content }
         ensures stops { EachStop (D.told disk.old) (D.told disk.new) SameFiles }
-        ensures cause { HasCause (D.told disk.old) (D.told disk.new) (result ≡ Err GateRefusal.DiskFault) }
+        ensures unsynced { StillLeaves (D.told disk.old) (D.told disk.new) }
+        ensures calls { IfOk result (λ log. MakesCalls (2 * frames_of log + 2) (D.told disk.old) (D.told disk.new)) }
+        ensures cause { HasCause (D.told disk.old).faults (D.told disk.new).faults (result ≡ Err GateRefusal.DiskFault) }
     {
         let len = disk.length(file).map_err(|e| refusal(e, 0))?;
         let mut at = 0;
@@ -79,8 +85,9 @@ impl GateLog {
         self.frames
     }
 
-    /// The place of gate i, which is that of frame i, or of the closed gate behind the last frame. It goes from gate
-    /// to gate. Over a disk that tells its content it never answers `Damaged`.
+    /// The place of gate i, which is that of frame i, or of the closed gate behind the last frame. The log keeps the place
+    /// of the last gate, and makes no call for it; for another it goes from gate to gate. Over a disk that tells its content
+    /// it never answers `Damaged`.
     pub fn place<D: Disk>(&self, disk: &mut D, i: u64) -> Result<u64, GateRefusal>
         requires known { D.tells_content → IsLogOf (D.told disk.old) self.now }
         requires gate { i ≤ frames_of self.now }
@@ -91,8 +98,15 @@ impl GateLog {
         ensures known { D.tells_content → IsLogOf (D.told disk.new) self.now }
         ensures content { SameFiles (D.told disk.old).content (D.told disk.new).content }
         ensures stops { EachStop (D.told disk.old) (D.told disk.new) SameFiles }
-        ensures cause { HasCause (D.told disk.old) (D.told disk.new) (result ≡ Err GateRefusal.DiskFault) }
+        ensures unsynced { StillLeaves (D.told disk.old) (D.told disk.new) }
+        ensures calls { i < frames_of self.now → OnOk result (MakesCalls (2 * i + 1) (D.told disk.old) (D.told disk.new)) }
+        ensures last { i ≡ frames_of self.now → IsOk result }
+        ensures last_kept { i ≡ frames_of self.now → disk.new ≡ disk.old }
+        ensures cause { HasCause (D.told disk.old).faults (D.told disk.new).faults (result ≡ Err GateRefusal.DiskFault) }
     {
+        if i == self.frames {
+            return Ok(self.end);
+        }
         let file = self.file;
         let len = disk.length(file).map_err(|e| refusal(e, 0))?;
         let mut at = 0;
@@ -123,7 +137,9 @@ impl GateLog {
         ensures known { D.tells_content → IsLogOf (D.told disk.new) self.now }
         ensures content { SameFiles (D.told disk.old).content (D.told disk.new).content }
         ensures stops { EachStop (D.told disk.old) (D.told disk.new) SameFiles }
-        ensures cause { HasCause (D.told disk.old) (D.told disk.new) (result ≡ Err GateRefusal.DiskFault) }
+        ensures unsynced { StillLeaves (D.told disk.old) (D.told disk.new) }
+        ensures calls { OnOk result (MakesCalls (2 * i + 5) (D.told disk.old) (D.told disk.new)) }
+        ensures cause { HasCause (D.told disk.old).faults (D.told disk.new).faults (result ≡ Err GateRefusal.DiskFault) }
     {
         let at = match self.place(disk, i) {
             Ok(at) => at,
@@ -156,7 +172,9 @@ impl GateLog {
         ensures known { D.tells_content → IsLogOf (D.told disk.new) self.now }
         ensures content { SameFiles (D.told disk.old).content (D.told disk.new).content }
         ensures stops { EachStop (D.told disk.old) (D.told disk.new) SameFiles }
-        ensures cause { HasCause (D.told disk.old) (D.told disk.new) (result ≡ Err GateRefusal.DiskFault) }
+        ensures unsynced { StillLeaves (D.told disk.old) (D.told disk.new) }
+        ensures calls { OnOk result (MakesCalls 4 (D.told disk.old) (D.told disk.new)) }
+        ensures cause { HasCause (D.told disk.old).faults (D.told disk.new).faults (result ≡ Err GateRefusal.DiskFault) }
     {
         let at = place.at;
         let next = match next_place(disk, self.file, at) {
@@ -172,14 +190,24 @@ impl GateLog {
         }
     }
 
+    /// Whether the log ends below 2^64 with this frame too, as `append` needs. It is so for all logs that a disk of today holds.
+    pub fn has_room(&self, frame: &Frame) -> bool
+        ensures { IsTrue result ↔ HasRoom self.now frame.now.body }
+    {
+        (frame.as_written().len() as u64) < u64::MAX - self.end
+    }
+
     /// Adds a frame, whose body isn't empty. At `Ok` it is on the disk, and a stop later on leaves it. It takes no memory.
+    /// It makes four calls: the frame is written behind the closed gate and synced, and the gate is opened and synced.
     /// After a `DiskFault` the log is opened again.
     pub fn append<D: Disk>(&mut self, disk: &mut D, frame: &Frame) -> Result<(), DiskFault>
         requires known { D.tells_content → IsLogOf (D.told disk.old) self.old }
         requires body { 0 < length frame.now.body }
+        requires room { HasRoom self.old frame.now.body }
 
         ensures known { D.tells_content → OnOk result (IsLogOf (D.told disk.new) self.new) }
         ensures added { D.tells_content → OnOk result (bodies_in (D.told disk.new) self.new ≡ bodies_in (D.told disk.old) self.old ++ frame.now.body ∷ []) }
+        ensures bytes { D.tells_content → OnOk result ((D.told disk.new).content (file_of self.old) ≡ appended ((D.told disk.old).content (file_of self.old)) frame.now.body) }
         ensures synced { OnOk result (IsSynced (D.told disk.new) (file_of self.new)) }
         ensures file { file_of self.new ≡ file_of self.old }
         ensures others { SameOthers (file_of self.old) (D.told disk.old).content (D.told disk.new).content }
@@ -188,7 +216,9 @@ impl GateLog {
         ensures stops { D.tells_content → IsSynced (D.told disk.old) (file_of self.old)
             → EachStop (D.told disk.old) (D.told disk.new) (InFile (file_of self.old) (KeepsOrAdds frame.now.body)) }
 
-        ensures cause { HasCause (D.told disk.old) (D.told disk.new) (IsErr result) }
+        ensures calls { OnOk result (MakesCalls 4 (D.told disk.old) (D.told disk.new)) }
+        ensures calls_at_most { MakesAtMost 4 (D.told disk.old) (D.told disk.new) }
+        ensures cause { HasCause (D.told disk.old).faults (D.told disk.new).faults (IsErr result) }
     {
         let bytes = frame.as_written();
         write_synced(disk, self.file, self.end + 1, bytes)?;
@@ -198,12 +228,15 @@ impl GateLog {
         Ok(())
     }
 
-    /// Takes all frames away; at `Ok` none is left by a later stop. It takes no memory. After a `DiskFault` the log is opened again.
+    /// Takes all frames away; at `Ok` none is left by a later stop. It takes no memory. The first gate is closed and synced,
+    /// two calls; a log without frames is synced and not written, one call. After a `DiskFault` the log is opened again.
     pub fn clear<D: Disk>(&mut self, disk: &mut D) -> Result<(), DiskFault>
         requires known { D.tells_content → IsLogOf (D.told disk.old) self.old }
 
         ensures known { D.tells_content → OnOk result (IsLogOf (D.told disk.new) self.new) }
         ensures cleared { D.tells_content → OnOk result (bodies_in (D.told disk.new) self.new ≡ []) }
+        ensures bytes { D.tells_content → 0 < frames_of self.old → OnOk result ((D.told disk.new).content (file_of self.old) ≡ cleared ((D.told disk.old).content (file_of self.old))) }
+        ensures unwritten { frames_of self.old ≡ 0 → SameFiles (D.told disk.old).content (D.told disk.new).content }
         ensures synced { OnOk result (IsSynced (D.told disk.new) (file_of self.new)) }
         ensures file { file_of self.new ≡ file_of self.old }
         ensures others { SameOthers (file_of self.old) (D.told disk.old).content (D.told disk.new).content }
@@ -212,7 +245,10 @@ impl GateLog {
         ensures stops { D.tells_content → IsSynced (D.told disk.old) (file_of self.old)
             → EachStop (D.told disk.old) (D.told disk.new) (InFile (file_of self.old) KeepsOrClears) }
 
-        ensures cause { HasCause (D.told disk.old) (D.told disk.new) (IsErr result) }
+        ensures calls { 0 < frames_of self.old → OnOk result (MakesCalls 2 (D.told disk.old) (D.told disk.new)) }
+        ensures calls_unwritten { frames_of self.old ≡ 0 → OnOk result (MakesCalls 1 (D.told disk.old) (D.told disk.new)) }
+        ensures calls_at_most { MakesAtMost 2 (D.told disk.old) (D.told disk.new) }
+        ensures cause { HasCause (D.told disk.old).faults (D.told disk.new).faults (IsErr result) }
     {
         // A gate that is closed already isn't written: torn, that write could open it before old bytes.
         if self.frames == 0 {
@@ -242,7 +278,9 @@ fn byte_at<D: Disk>(disk: &mut D, file: FileId, at: u64) -> Result<u8, GateRefus
     ensures damaged { D.tells_content → IfErr result (λ refusal. IfDamaged refusal (λ place. length ((D.told disk.old).content file.0) ≤ at)) }
     ensures content { SameFiles (D.told disk.old).content (D.told disk.new).content }
     ensures stops { EachStop (D.told disk.old) (D.told disk.new) SameFiles }
-    ensures cause { HasCause (D.told disk.old) (D.told disk.new) (result ≡ Err GateRefusal.DiskFault) }
+    ensures unsynced { StillLeaves (D.told disk.old) (D.told disk.new) }
+    ensures calls { OnOk result (MakesCalls 1 (D.told disk.old) (D.told disk.new)) }
+    ensures cause { HasCause (D.told disk.old).faults (D.told disk.new).faults (result ≡ Err GateRefusal.DiskFault) }
 {
     let mut byte = [0; 1];
     match disk.read(file, at, &mut byte) {
@@ -259,7 +297,9 @@ fn length_behind<D: Disk>(disk: &mut D, file: FileId, at: u64) -> Result<u32, Ga
     ensures damaged { D.tells_content → IfErr result (λ refusal. IfDamaged refusal (λ place. length ((D.told disk.old).content file.0) < at + 5)) }
     ensures content { SameFiles (D.told disk.old).content (D.told disk.new).content }
     ensures stops { EachStop (D.told disk.old) (D.told disk.new) SameFiles }
-    ensures cause { HasCause (D.told disk.old) (D.told disk.new) (result ≡ Err GateRefusal.DiskFault) }
+    ensures unsynced { StillLeaves (D.told disk.old) (D.told disk.new) }
+    ensures calls { OnOk result (MakesCalls 1 (D.told disk.old) (D.told disk.new)) }
+    ensures cause { HasCause (D.told disk.old).faults (D.told disk.new).faults (result ≡ Err GateRefusal.DiskFault) }
 {
     let mut bytes = [0; 4];
     match disk.read(file, at + 1, &mut bytes) {
@@ -282,7 +322,9 @@ fn next_gate<D: Disk>(
     ensures further { IfOk result (λ next. MatchOption next (at < len) (λ n. (at + 5 < n) × (n < len) × (n ≤ at + 2000005))) }
     ensures content { SameFiles (D.told disk.old).content (D.told disk.new).content }
     ensures stops { EachStop (D.told disk.old) (D.told disk.new) SameFiles }
-    ensures cause { HasCause (D.told disk.old) (D.told disk.new) (result ≡ Err GateRefusal.DiskFault) }
+    ensures unsynced { StillLeaves (D.told disk.old) (D.told disk.new) }
+    ensures calls { IfOk result (λ next. MatchOption next (MakesCalls 1 (D.told disk.old) (D.told disk.new)) (λ n. MakesCalls 2 (D.told disk.old) (D.told disk.new))) }
+    ensures cause { HasCause (D.told disk.old).faults (D.told disk.new).faults (result ≡ Err GateRefusal.DiskFault) }
 {
     if at >= len {
         return Err(GateRefusal::Damaged { at });
@@ -308,7 +350,9 @@ fn next_place<D: Disk>(disk: &mut D, file: FileId, at: u64) -> Result<u64, GateR
     ensures further { IfOk result (λ next. (at + 5 < next) × (next ≤ at + 2000005) × (next < 2 ^ 64)) }
     ensures content { SameFiles (D.told disk.old).content (D.told disk.new).content }
     ensures stops { EachStop (D.told disk.old) (D.told disk.new) SameFiles }
-    ensures cause { HasCause (D.told disk.old) (D.told disk.new) (result ≡ Err GateRefusal.DiskFault) }
+    ensures unsynced { StillLeaves (D.told disk.old) (D.told disk.new) }
+    ensures calls { OnOk result (MakesCalls 3 (D.told disk.old) (D.told disk.new)) }
+    ensures cause { HasCause (D.told disk.old).faults (D.told disk.new).faults (result ≡ Err GateRefusal.DiskFault) }
 {
     let len = match disk.length(file) {
         Ok(len) => len,
@@ -336,7 +380,9 @@ fn read_more<D: Disk>(
     ensures damaged { D.tells_content → IfErr result (λ refusal. IfDamaged refusal (λ place. length ((D.told disk.old).content file.0) < at + count)) }
     ensures content { SameFiles (D.told disk.old).content (D.told disk.new).content }
     ensures stops { EachStop (D.told disk.old) (D.told disk.new) SameFiles }
-    ensures cause { HasCause (D.told disk.old) (D.told disk.new) (result ≡ Err GateRefusal.DiskFault) }
+    ensures unsynced { StillLeaves (D.told disk.old) (D.told disk.new) }
+    ensures calls { OnOk result (MakesCalls 1 (D.told disk.old) (D.told disk.new)) }
+    ensures cause { HasCause (D.told disk.old).faults (D.told disk.new).faults (result ≡ Err GateRefusal.DiskFault) }
 {
     let held = into.len();
     if into.resize(held + count, 0).is_err() {

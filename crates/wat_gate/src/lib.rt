@@ -3,9 +3,8 @@
 
 mod frame;
 mod gate_log;
+mod laws;
 
 pub use frame::Frame;
 pub use gate_log::{GateLog, GatePlace, GateRefusal};
-
-#[cfg(test)]
-mod tests;
+pub use laws::gate_log_law;

@@ -1,5 +1,5 @@
 use Rattle.std.proofs.Common.{◌+◌, ◌++◌, length, take, drop, ◌∙◌}
-use Rattle.wat_disk.specs.Writes.{written_grown}
+use Rattle.wat_disk.proofs.Writes.{written_grown}
 use Rattle.wat_disk.proofs.bytes.overwrite.Goals as goal
 
 pub returns-clause-written : goal.returns-clause-written

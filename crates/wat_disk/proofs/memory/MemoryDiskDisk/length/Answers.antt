@@ -10,7 +10,7 @@ returns-then-not-can_call-clause-counts c =
     record {
       moment = c.fail.ensures.moment;
       never_falls = c.fail.ensures.never_falls;
-      failed = λ is. c.fail.ensures.rose;
+      failed = λ is. c.fail.ensures.faults;
       kept = λ not. absurd (not failed);
       last = λ end. (failed, c.fail.ensures.content);
     }

@@ -1,7 +1,8 @@
 use Rattle.std.proofs.Common.{◌⊎◌, ◌+◌, ◌-◌, ◌<◌, ◌++◌, ℕ, List, length, sym, ◌∙◌, ap, subst, arith}
 use Rattle.std.specs.Prelude.{slice_range}
 use Rattle.wat_disk.proofs.Stops.{both_same}
-use Rattle.wat_gate.specs.Bodies.{IsAtGate, IsClosedGate, IsBrokenGate}
+use Rattle.wat_gate.specs.Bodies.{IsAtGate}
+use Rattle.wat_gate.specs.Gates.{IsClosedGate, IsBrokenGate}
 use Rattle.wat_gate.proofs.Walk.{at_next, body_here, none_bad, next_within, if_damaged}
 use Rattle.wat_gate.proofs.gate_log.GateLog.frame_at.Goals as goal
 

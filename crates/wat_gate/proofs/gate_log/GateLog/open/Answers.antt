@@ -1,7 +1,8 @@
 use Rattle.std.proofs.Common.{ℕ, List, sym, ◌∙◌, subst, arith}
 use Rattle.std.proofs.lemmas.Result.{err_from_is_err_and}
 use Rattle.wat_disk.proofs.Stops.{both_same}
-use Rattle.wat_gate.specs.Bodies.{IsAtGate, IsOpenGate, IsClosedGate, IsBrokenGate, IsBrokenAt}
+use Rattle.wat_gate.specs.Bodies.{IsAtGate, IsBrokenAt}
+use Rattle.wat_gate.specs.Gates.{IsOpenGate, IsClosedGate, IsBrokenGate}
 use Rattle.wat_gate.proofs.Walk.{at_next, at_closed, at_broken, at_some, at_none, if_damaged}
 use Rattle.wat_gate.proofs.gate_log.GateLog.open.Goals as goal
 
@@ -32,9 +33,10 @@ loop-next-preserved g c =
       within = omega arith;
       content = λ f. c.next_gate.ensures.content f ∙ i.content f;
       stops = both_same _ _ _ i.stops c.next_gate.ensures.stops;
+      unsynced = λ image left. c.next_gate.ensures.unsynced image (i.unsynced image left);
+      calls = omega (arith, i.calls, at_some _ _ _ _ c.in-Some.is c.in_ok-next.ensures.calls);
       cause = record {
         later = omega (arith, i.cause.later, c.next_gate.ensures.cause.later);
-        never_falls = omega (arith, i.cause.never_falls, c.next_gate.ensures.cause.never_falls);
         rose = λ never. absurd never;
         kept = λ well. c.in_ok-next.ensures.cause.kept (λ e. cc) ∙ i.cause.kept well;
       };

@@ -1,5 +1,6 @@
-use Rattle.std.proofs.Common.{◌≡◌, ◌≤◌, ◌-◌, length}
-use Rattle.wat_disk.specs.Disk.{SameFiles, EachStop, HasCause}
+use Rattle.std.proofs.Common.{◌≡◌, ◌+◌, ◌*◌, ◌≤◌, ◌-◌, length}
+use Rattle.wat_disk.specs.Disk.{SameFiles, EachStop, StillLeaves, MakesCalls}
+use Rattle.wat_faults.specs.Faults.{HasCause}
 use Rattle.wat_gate.specs.Bodies.{IsAtGate}
 use Rattle.wat_gate.proofs.gate_log.GateLog.open.Given as goal
 
@@ -11,7 +12,9 @@ invariant-loop-next g l = record {
   within : l.at ≤ l.len;
   content : SameFiles (g.D.Disk.told l.fn.disk).content (g.D.Disk.told l.disk).content;
   stops : EachStop (g.D.Disk.told l.fn.disk) (g.D.Disk.told l.disk) SameFiles;
-  cause : HasCause (g.D.Disk.told l.fn.disk) (g.D.Disk.told l.disk) ⊥;
+  unsynced : StillLeaves (g.D.Disk.told l.fn.disk) (g.D.Disk.told l.disk);
+  calls : MakesCalls (2 * l.frames + 1) (g.D.Disk.told l.fn.disk) (g.D.Disk.told l.disk);
+  cause : HasCause (g.D.Disk.told l.fn.disk).faults (g.D.Disk.told l.disk).faults ⊥;
 }
 
 abbrev pub decreases-loop-next : goal.decreases-loop-next

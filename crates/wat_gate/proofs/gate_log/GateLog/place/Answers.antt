@@ -1,9 +1,12 @@
 use Rattle.std.proofs.Common.{◌≡◌, ℕ, List, ◌∙◌, subst, arith}
 use Rattle.std.proofs.lemmas.Result.{err_from_is_err_and}
-use Rattle.wat_disk.proofs.Stops.{both_same}
-use Rattle.wat_gate.specs.Bodies.{IsOpenGate, IsClosedGate, IsBrokenGate}
+use Rattle.wat_disk.proofs.Stops.{none_same, both_same}
+use Rattle.wat_gate.specs.Gates.{IsOpenGate, IsClosedGate, IsBrokenGate}
 use Rattle.wat_gate.proofs.Walk.{at_next, at_closed, broken_last, at_some, at_nothing, if_damaged}
 use Rattle.wat_gate.proofs.gate_log.GateLog.place.Goals as goal
+
+pub returns-then-i-self-clause-stops : goal.returns-then-i-self-clause-stops
+returns-then-i-self-clause-stops g c = none_same _
 
 pub returns-in_err-next-clause-stops : goal.returns-in_err-next-clause-stops
 returns-in_err-next-clause-stops g c = both_same _ _ _ c.loop-passed.invariant.stops c.next_gate.ensures.stops
@@ -40,9 +43,10 @@ loop-passed-preserved g c =
       size = i.size;
       content = λ f. c.next_gate.ensures.content f ∙ i.content f;
       stops = both_same _ _ _ i.stops c.next_gate.ensures.stops;
+      unsynced = λ image left. c.next_gate.ensures.unsynced image (i.unsynced image left);
+      calls = omega (arith, i.calls, at_some _ _ _ _ c.in-Some.is c.in_ok-next.ensures.calls);
       cause = record {
         later = omega (arith, i.cause.later, c.next_gate.ensures.cause.later);
-        never_falls = omega (arith, i.cause.never_falls, c.next_gate.ensures.cause.never_falls);
         rose = λ never. absurd never;
         kept = λ well. c.in_ok-next.ensures.cause.kept (λ e. cc) ∙ i.cause.kept well;
       };

@@ -1,0 +1,2 @@
+pub mod CommitsLemmas
+pub mod MomentsLemmas
