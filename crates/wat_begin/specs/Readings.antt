@@ -1,6 +1,7 @@
 -- What reading scripts comes to, in their order.
-use Rattle.std.specs.Prelude.{⊤, ℕ, ◌+◌, nat_lt, if◌then◌else◌, List, [], ◌∷◌, length, Option, None, Some, Result, Ok, Err}
+use Rattle.std.specs.Prelude.{◌≡◌, ℕ, ◌+◌, nat_lt, if◌then◌else◌, List, [], ◌∷◌, length, take, Option, None, Some, Result, Ok, Err}
 use Rattle.std.specs.Str.Lossy.{utf8_valid_len}
+use Rattle.wat_faults.specs.Faults.{Rose}
 use Rattle.wat_io.specs.Scripts.{Texts, Stands}
 use Rattle.wat_begin.specs.Faults.{◌>>=◌}
 use Rattle.wat_begin.specs.declared.fault.Fault.{Fault}
@@ -12,18 +13,19 @@ pub data Reading : Type 0 where
   Missing : Reading
   Failing : Reading
 
--- Under this name the scripts may be read so, where a failure has this cause.
-abbrev pub MayRead : Option Texts → Type 0 → List ℕ → Reading → Type 0
-MayRead told rose name (Holds text) = Stands told name (Some text)
-MayRead told rose name Missing = Stands told name None
-MayRead told rose name Failing = rose
+-- Under this name the scripts may be read so, where their count of faults goes from `before` to `now`: it stays, unless this very reading
+-- has failed.
+abbrev pub MayRead : Option Texts → ℕ → ℕ → List ℕ → Reading → Type 0
+MayRead told before now name (Holds text) = Stands told name (Some text) × (now ≡ before)
+MayRead told before now name Missing = Stands told name None × (now ≡ before)
+MayRead told before now name Failing = Rose before now
 
--- a reading for each name, in order
-abbrev pub AreReadings : Option Texts → Type 0 → List (List ℕ) → List Reading → Type 0
-AreReadings told rose [] [] = ⊤
-AreReadings told rose (name ∷ names) (reading ∷ readings) = MayRead told rose name reading × AreReadings told rose names readings
-AreReadings told rose [] (reading ∷ readings) = ⊥
-AreReadings told rose (name ∷ names) [] = ⊥
+-- a reading for each name, in order, through which the count goes from `before` to `now`
+abbrev pub AreReadings : Option Texts → ℕ → ℕ → List (List ℕ) → List Reading → Type 0
+AreReadings told before now [] [] = now ≡ before
+AreReadings told before now (name ∷ names) (reading ∷ readings) = (between : ℕ) × MayRead told before between name reading × AreReadings told between now names readings
+AreReadings told before now [] (reading ∷ readings) = ⊥
+AreReadings told before now (name ∷ names) [] = ⊥
 
 -- a script has at most so many bytes
 abbrev pub script_limit : ℕ
@@ -43,3 +45,10 @@ abbrev pub scripts_of : ℕ → List Reading → Result (List (List ℕ)) Fault
 scripts_of i [] = Ok []
 scripts_of i (reading ∷ readings) =
     script_of i reading >>= λ text. scripts_of (i + 1) readings >>= λ texts. Ok (text ∷ texts)
+
+-- The names that were asked for where this is the answer: those up to the script that is at fault, or all of them.
+abbrev pub names_asked : {A : Type 0} → List (List ℕ) → Result A Fault → List (List ℕ)
+names_asked names (Err (CannotRead i)) = take i names
+names_asked names (Err (TooLong i)) = take i names
+names_asked names (Err (NotText i at)) = take i names
+names_asked names _ = names

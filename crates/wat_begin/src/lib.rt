@@ -5,7 +5,4 @@ mod fault;
 mod scripts;
 
 pub use fault::Fault;
-pub use scripts::{SCRIPT_LIMIT, read_scripts};
-
-#[cfg(test)]
-mod tests;
+pub use scripts::read_scripts;

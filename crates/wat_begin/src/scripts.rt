@@ -1,9 +1,8 @@
-ghost use Rattle.std.specs.Prelude.{◌≡◌, ◌≢◌, ◌≤◌, ◌<◌, ℕ, length, List, map, string_bytes, IfSome, IfNone};
+ghost use Rattle.std.specs.Prelude.{◌≡◌, ◌≢◌, ◌≤◌, ◌<◌, ℕ, [], ◌∷◌, ◌++◌, length, take, List, map, string_bytes, IfSome, IfNone};
 ghost use Rattle.std.specs.Str.{IsUtf8};
 ghost use Rattle.std.specs.Str.Lossy.{utf8_valid_len};
-ghost use Rattle.wat_io.specs.Faults.{Rose};
 ghost use Rattle.wat_begin.specs.Faults.{UnlessMemory};
-ghost use Rattle.wat_begin.specs.Readings.{Reading, MayRead, AreReadings, script_of, scripts_of};
+ghost use Rattle.wat_begin.specs.Readings.{Reading, MayRead, AreReadings, names_asked, script_of, scripts_of};
 
 use crate::fault::Fault;
 use std::alloc::Global;
@@ -11,7 +10,7 @@ use wat_conn::{Script, ScriptList};
 use wat_io::{ScriptError, Scripts};
 
 /// A script has at most so many bytes.
-pub const SCRIPT_LIMIT: usize = 16777216;
+const SCRIPT_LIMIT: usize = 16777216;
 
 /// Where the bytes stop being text, if they do.
 fn not_text_at(bytes: &[u8]) -> Option<u64>
@@ -32,8 +31,9 @@ fn read_script<L: Scripts>(
     name: &str,
     scripts: &mut L,
 ) -> Result<Script, Fault>
-    ensures read { (reading : Reading) × MayRead (L.texts scripts.old) (Rose (L.faults scripts.old) (L.faults scripts.new)) name.now reading
-        × UnlessMemory result (result ≡ script_of number reading) }
+    ensures read { UnlessMemory result ((reading : Reading) × MayRead (L.texts scripts.old) (L.faults scripts.old) (L.faults scripts.new) name.now reading
+        × (result ≡ script_of number reading)) }
+    ensures asked { L.asked scripts.new ≡ L.asked scripts.old ++ name.now ∷ [] }
     ensures texts { L.texts scripts.new ≡ L.texts scripts.old }
     ensures faults { L.faults scripts.old ≤ L.faults scripts.new }
     ensures kept { result ≢ Err (Fault.CannotRead number) → L.faults scripts.new ≡ L.faults scripts.old }
@@ -55,15 +55,19 @@ fn read_script<L: Scripts>(
 }
 
 /// Reads the scripts under these names, in order, up to the first fault. Each that is read is UTF-8 of at most
-/// `SCRIPT_LIMIT` bytes.
+/// 16,777,216 bytes.
 pub fn read_scripts<L: Scripts>(
     alloc: Global,
     names: &[String],
     scripts: &mut L,
 ) -> Result<ScriptList, Fault>
-    // Each name was read as it may be read, and the answer is what those readings come to, unless memory was wanted.
-    ensures read { (readings : List Reading) × AreReadings (L.texts scripts.old) (Rose (L.faults scripts.old) (L.faults scripts.new)) (map string_bytes names.now) readings
-        × UnlessMemory result (result ≡ scripts_of 1 readings) }
+    // The names that were asked for are the first ones, in order, each once: all of them, or those up to the script at fault.
+    // Where memory was wanted, it may have been behind any of them.
+    ensures asked { UnlessMemory result (L.asked scripts.new ≡ L.asked scripts.old ++ names_asked (map string_bytes names.now) result) }
+    ensures asked_first { (k : ℕ) × (L.asked scripts.new ≡ L.asked scripts.old ++ take k (map string_bytes names.now)) }
+    // Each of those was read as it may be read, and the answer is what those readings come to.
+    ensures read { UnlessMemory result ((readings : List Reading) × AreReadings (L.texts scripts.old) (L.faults scripts.old) (L.faults scripts.new) (names_asked (map string_bytes names.now) result) readings
+        × (result ≡ scripts_of 1 readings)) }
     ensures texts { L.texts scripts.new ≡ L.texts scripts.old }
     ensures faults { L.faults scripts.old ≤ L.faults scripts.new }
     // No fault is counted, unless the answer is that a script can't be read.

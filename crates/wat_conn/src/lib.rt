@@ -8,6 +8,3 @@ mod session;
 pub use answer::{Answer, Reason, Refusal, Reply, TableColumn};
 pub use script::{Script, ScriptList};
 pub use session::{Entry, Moments, Session, Transcript, Transcripts};
-
-#[cfg(test)]
-mod tests;

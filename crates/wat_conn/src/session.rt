@@ -1,7 +1,7 @@
 use crate::answer::{Answer, Reason};
 use crate::script::ScriptList;
 use std::alloc::Global;
-use wat_list::Items;
+use wat_list::{Items, Reserved};
 
 /// A statement's answer, with the place of its text in the script: the bytes from `from` on, up to the one before `to`.
 #[derive(Debug, Drop)]
@@ -11,14 +11,15 @@ pub struct Entry {
     pub answer: Answer,
 }
 
-/// The answers of one connection, in the order of its script.
-pub type Transcript = Items<Entry>;
+/// The answers of one connection, in the order of its script. Its room may be taken ahead of time, so that an entry asks
+/// for no memory.
+pub type Transcript = Reserved<Entry>;
 
 /// The transcripts of the connections, from connection 1 on.
 pub type Transcripts = Items<Transcript>;
 
-/// The disk's moments at which the commits were acknowledged, from commit 1 on.
-pub type Moments = Items<u64>;
+/// The disk's moments at which the commits were acknowledged, from commit 1 on, with room as in a transcript.
+pub type Moments = Reserved<u64>;
 
 /// What the connections were asked and answered.
 #[derive(Debug, Drop)]
@@ -37,13 +38,13 @@ impl Session {
     pub fn new(alloc: Global) -> Self
         ensures scripts { result.scripts ≡ [] }
         ensures transcripts { result.transcripts ≡ [] }
-        ensures moments { result.moments ≡ [] }
+        ensures moments { result.moments.items ≡ [] }
         ensures stop { result.stop ≡ None }
     {
         Session {
             scripts: Items::new(alloc),
             transcripts: Items::new(alloc),
-            moments: Items::new(alloc),
+            moments: Reserved::new(alloc),
             stop: None,
         }
     }

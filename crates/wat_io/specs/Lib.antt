@@ -1,5 +1,5 @@
-pub mod Faults
 pub mod Calls
+pub mod Readers
 pub mod Scripts
 pub mod MemoryScripts
 pub mod Sink

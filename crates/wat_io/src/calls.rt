@@ -1,7 +1,7 @@
 ghost use Rattle.std.specs.Prelude.{◌≡◌, ◌≤◌};
 
 /// The calls that were made of an object in memory, and those of them that fail.
-#[derive(Debug, Drop)]
+#[derive(Drop)]
 pub struct Calls {
     /// The numbers of the calls that fail, from 0.
     failing: Vec<u64>,
@@ -12,7 +12,7 @@ pub struct Calls {
 }
 
 impl Calls {
-    ghost use Rattle.wat_io.specs.Faults.{counted};
+    ghost use Rattle.wat_faults.specs.Faults.{counted};
     ghost use Rattle.wat_io.specs.Calls.{is_to_fail};
 
     /// No call was made yet.

@@ -12,9 +12,10 @@ pub struct OutSink<W: Write> {
 }
 
 impl<W: Write> OutSink<W> {
-    /// No write was made yet.
+    /// No write was made yet: what was taken is what the writer holds.
     pub fn new(out: W) -> Self
-        ensures { result.faults ≡ 0 }
+        ensures taken { W.contents result.out ≡ W.contents out }
+        ensures faults { result.faults ≡ 0 }
     {
         OutSink { out, faults: 0 }
     }

@@ -1,5 +1,5 @@
-ghost use Rattle.std.specs.Prelude.{◌≡◌, ℕ, Option};
-ghost use Rattle.wat_io.specs.Faults.{HasCause};
+ghost use Rattle.std.specs.Prelude.{◌≡◌, ℕ, List, [], ◌∷◌, ◌++◌, Option};
+ghost use Rattle.wat_faults.specs.Faults.{HasCause};
 ghost use Rattle.wat_io.specs.Scripts.{Texts, Reads};
 
 /// Why a script was not read.
@@ -18,6 +18,9 @@ pub trait Scripts {
     /// The text under each name, where this is told.
     ghost texts: { Self → Option Texts };
 
+    /// The names that were asked for, in order, each as often as it was asked for.
+    ghost asked: { Self → List (List ℕ) };
+
     /// How often a read has failed.
     ghost faults: { Self → ℕ };
 
@@ -27,7 +30,10 @@ pub trait Scripts {
         ensures read { Reads (texts self.old) name.now most into.old.items into.new.items result }
         ensures texts { texts self.new ≡ texts self.old }
 
-        // A read is Failed only where a fault was counted, and none is counted where the name is not there.
+        // The name was asked for, whatever the answer is.
+        ensures asked { asked self.new ≡ asked self.old ++ name.now ∷ [] }
+
+        // A fault is counted exactly where a read is Failed, and so none where the name is not there.
         ensures faults { HasCause (faults self.old) (faults self.new) (result ≡ Err ScriptError.Failed) }
         ensures absent { result ≡ Err ScriptError.Absent → faults self.new ≡ faults self.old };
 }

@@ -1,6 +1,6 @@
 ghost use Rattle.std.specs.Prelude.{◌≡◌, ℕ, List, ◌<◌, ◌≤◌, Option, length, IfOk, OnOk, OnErr, IsErr};
 ghost use Rattle.std.specs.Io.KnownBytes.{Appends, WriteAppends};
-ghost use Rattle.wat_io.specs.Faults.{HasCause};
+ghost use Rattle.wat_faults.specs.Faults.{HasCause};
 ghost use Rattle.wat_io.specs.Sink.{AppendsPart};
 
 /// The sink failed, and counted the fault.
@@ -22,7 +22,7 @@ pub trait Sink {
         ensures count { IfOk result (λ n. (0 < n) × (n ≤ length bytes.now)) }
         ensures taken { WriteAppends (taken self.old) (taken self.new) result bytes.now }
 
-        // A write fails only where a fault was counted.
+        // A fault is counted exactly where a write fails.
         ensures faults { HasCause (faults self.old) (faults self.new) (IsErr result) };
 }
 

@@ -1,17 +1,14 @@
 -- How values are written in SQL.
-use Rattle.std.specs.Prelude.{ℕ, ◌==◌, if◌then◌else◌, List, [], ◌∷◌, ◌++◌, codes}
+use Rattle.std.specs.Prelude.{ℕ, List, ◌++◌, codes}
 use Rattle.std.specs.Fmt.{signed_decimal}
 use Rattle.std.specs.List.{flat_map, join_by}
+use Rattle.wat_lex.specs.Rules.{doubled}
 use Rattle.wat_value.specs.declared.value.Value.{Value}
 use Rattle.wat_value.specs.declared.value.Value.TheVariants.{Null, Int, Text}
 
--- a byte within quotes: the quote itself is written twice
-abbrev pub quoted_byte : ℕ → List ℕ
-quoted_byte b = if b == 39 then 39 ∷ 39 ∷ [] else b ∷ []
-
--- a text in quotes
+-- a text in quotes, each quote within it twice
 abbrev pub quoted : List ℕ → List ℕ
-quoted text = codes "'" ++ flat_map quoted_byte text ++ codes "'"
+quoted text = codes "'" ++ flat_map doubled text ++ codes "'"
 
 abbrev pub value_text : Value → List ℕ
 value_text Null = codes "NULL"

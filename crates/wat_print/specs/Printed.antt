@@ -1,6 +1,7 @@
 -- What a session prints.
 use Rattle.std.specs.Prelude.{ℕ, List, [], ◌++◌, length, codes, decimal, Option, None, Some}
 use Rattle.std.specs.List.{flat_map, enumerate_from}
+use Rattle.wat_list.specs.Reservation.{Reservation}
 use Rattle.wat_value.specs.declared.value.Value.{Value}
 use Rattle.wat_conn.specs.declared.answer.TableColumn.{TableColumn}
 use Rattle.wat_conn.specs.declared.answer.TableColumn.TheVariants as column
@@ -57,8 +58,8 @@ abbrev pub entry_text : ℕ × Entry → List ℕ
 entry_text numbered = decimal numbered.0 ++ codes ": " ++ answer_text numbered.1.answer
 
 -- a transcript under the number of its connection
-abbrev pub connection_text : ℕ × List Entry → List ℕ
-connection_text numbered = line (codes "connection " ++ decimal numbered.0) ++ flat_map entry_text (enumerate_from 1 numbered.1)
+abbrev pub connection_text : ℕ × Reservation Entry → List ℕ
+connection_text numbered = line (codes "connection " ++ decimal numbered.0) ++ flat_map entry_text (enumerate_from 1 numbered.1.items)
 
 abbrev pub stop_text : Option Reason → List ℕ
 stop_text None = []
@@ -68,5 +69,5 @@ stop_text (Some reason) = stop_line reason
 abbrev pub printed : Session → List ℕ
 printed session =
     flat_map connection_text (enumerate_from 1 session.transcripts)
-    ++ line (codes "commits " ++ decimal (length session.moments))
+    ++ line (codes "commits " ++ decimal (length session.moments.items))
     ++ stop_text session.stop

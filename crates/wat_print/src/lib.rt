@@ -6,6 +6,3 @@ mod print;
 
 pub use literal::push_row;
 pub use print::printed;
-
-#[cfg(test)]
-mod tests;

@@ -1,7 +1,8 @@
 ghost use Rattle.std.specs.Prelude.{◌≡◌, ◌++◌, OnOk, decimal, codes};
 ghost use Rattle.std.specs.Fmt.{signed_decimal};
 ghost use Rattle.std.specs.List.{flat_map, join_by};
-ghost use Rattle.wat_print.specs.Literal.{quoted_byte, quoted, value_text, row_text};
+ghost use Rattle.wat_lex.specs.Rules.{doubled};
+ghost use Rattle.wat_print.specs.Literal.{quoted, value_text, row_text};
 
 use itoa::Buffer;
 use wat_list::NoMemory;
@@ -23,7 +24,7 @@ fn push_integer(out: &mut Vec<u8>, number: i64) -> Result<(), NoMemory>
 }
 
 fn push_quoted_bytes(out: &mut Vec<u8>, text: &[u8]) -> Result<(), NoMemory>
-    ensures { OnOk result (out.new.items ≡ out.old.items ++ flat_map quoted_byte text.now) }
+    ensures { OnOk result (out.new.items ≡ out.old.items ++ flat_map doubled text.now) }
 {
     for byte in text {
         if *byte == b'\'' {
@@ -76,11 +77,18 @@ fn push_values(out: &mut Vec<u8>, values: &[Value]) -> Result<(), NoMemory>
     }
 }
 
-/// Appends a row, or a key: its values in parentheses, as SQL writes them. After a refusal a part of it may stand.
+/// Appends a row: its values in parentheses, as SQL writes them. After a refusal a part of it may stand.
 pub fn push_row(out: &mut Vec<u8>, row: &Row) -> Result<(), NoMemory>
     ensures { OnOk result (out.new.items ≡ out.old.items ++ row_text row.now) }
 {
+    push_listed(out, row.as_slice())
+}
+
+/// Appends values in parentheses, as SQL writes them.
+pub(crate) fn push_listed(out: &mut Vec<u8>, values: &[Value]) -> Result<(), NoMemory>
+    ensures { OnOk result (out.new.items ≡ out.old.items ++ row_text values.now) }
+{
     out.extend_from_slice(b"(")?;
-    push_values(out, row.as_slice())?;
+    push_values(out, values)?;
     out.extend_from_slice(b")")
 }

@@ -2,10 +2,10 @@ ghost use Rattle.std.specs.Prelude.{◌≡◌, ◌++◌, OnOk, OnErr, decimal};
 ghost use Rattle.std.specs.List.{flat_map, enumerate_from};
 ghost use Rattle.wat_print.specs.Printed.{line, row_line, reply_text, column_text, refusal_text, reason_text, stop_line, answer_text, entry_text, connection_text, stop_text, printed};
 
-use crate::literal::{push_number, push_row};
+use crate::literal::{push_listed, push_number, push_row};
 use wat_conn::{Answer, Entry, Reason, Refusal, Reply, Session, TableColumn, Transcript};
 use wat_list::NoMemory;
-use wat_value::{Row, Rows};
+use wat_value::{Key, Row, Rows};
 
 /// Appends the front, the number, and a line feed.
 fn push_count(out: &mut Vec<u8>, front: &[u8], number: u64) -> Result<(), NoMemory>
@@ -44,11 +44,11 @@ fn push_reply(out: &mut Vec<u8>, reply: &Reply) -> Result<(), NoMemory>
     }
 }
 
-fn push_duplicate(out: &mut Vec<u8>, key: &Row) -> Result<(), NoMemory>
+fn push_duplicate(out: &mut Vec<u8>, key: &Key) -> Result<(), NoMemory>
     ensures { OnOk result (out.new.items ≡ out.old.items ++ refusal_text (Refusal.Duplicate key.now)) }
 {
     out.extend_from_slice(b"error Duplicate ")?;
-    push_row(out, key)?;
+    push_listed(out, key.as_slice())?;
     out.extend_from_slice(b"\n")
 }
 

@@ -146,6 +146,3 @@ pub fn script_names(command: Command, words: &[String]) -> &[String]
         },
     }
 }
-
-#[cfg(test)]
-mod tests;
