@@ -12,6 +12,3 @@ pub use statement::{Element, Elements, InsertSource, SetItem, SetItems, Statemen
 pub use wat_name::Name;
 
 pub type Names = wat_list::Items<Name>;
-
-#[cfg(test)]
-mod tests;

@@ -3,7 +3,7 @@ use Rattle.std.proofs.Common.{◌≡◌, ℕ, ◌+◌, ◌-◌, ◌<◌, ◌≤�
 use Rattle.wat_ast.specs.declared.expression.BinaryOp.{BinaryOp}
 use Rattle.wat_ast.specs.declared.expression.Expr.{Expr}
 use Rattle.wat_ast.specs.declared.expression.Expr.TheVariants as e
-use Rattle.wat_grammar.specs.Phrase.{Outcome, seq, first, sees, read_within}
+use Rattle.wat_grammar.specs.Phrase.{Outcome, seq, first_kinds, sees, read_within}
 use Rattle.wat_grammar.proofs.Outcomes.{bind_of, bind_err_of}
 use Rattle.wat_syntax.specs.declared.kind.Kind.{Kind}
 use Rattle.wat_syntax.specs.Lexeme.{Lexeme}
@@ -14,7 +14,7 @@ use Rattle.wat_cursor.proofs.Turns as turn
 abbrev pub grouped : Expr → ℕ → Sql BinaryOp → Sql Expr → ℕ → List Lexeme → Outcome Lexeme Expr
 grouped left levels op p n ts = turn.folded operation left (turn.turns levels (seq op p) n ts)
 
-module _ (levels : ℕ) (op : Sql BinaryOp) (p : Sql Expr) (ks : List Kind) (starts : first sql (seq op p) ≡ ks) (left : Expr) (ts : List Lexeme) where
+module _ (levels : ℕ) (op : Sql BinaryOp) (p : Sql Expr) (ks : List Kind) (starts : first_kinds sql (seq op p) ≡ ks) (left : Expr) (ts : List Lexeme) where
   pub stops : (n : ℕ) → sees sql ks ts ≡ false → grouped left levels op p n ts ≡ Ok (left, ts)
   stops = turn.stops operation levels (seq op p) ks starts left ts
 

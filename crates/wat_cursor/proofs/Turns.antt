@@ -1,6 +1,6 @@
 -- A phrase that is read any number of times, turn by turn.
 use Rattle.std.proofs.Common.{◌≡◌, ℕ, zero, suc, ◌+◌, ◌-◌, ◌<◌, ◌≤◌, true, false, List, [], ◌∷◌, fold, Ok, Err, refl, sym, ◌∙◌, ap, arith}
-use Rattle.wat_grammar.specs.Phrase.{Outcome, ◌>>=◌, first, sees, read_many, read_within}
+use Rattle.wat_grammar.specs.Phrase.{Outcome, ◌>>=◌, first_kinds, sees, read_many, read_within}
 use Rattle.wat_grammar.proofs.Outcomes.{take_true, take_false, bind_of, bind_err_of}
 use Rattle.wat_syntax.specs.declared.kind.Kind.{Kind}
 use Rattle.wat_syntax.specs.Lexeme.{Lexeme}
@@ -11,20 +11,20 @@ abbrev pub folded : {A S : Type 0} → (S → A → S) → S → Outcome Lexeme 
 folded step state o = o >>= (λ xs us. Ok (fold step state xs, us))
 
 abbrev pub turns : {A : Type 0} → ℕ → Sql A → ℕ → List Lexeme → Outcome Lexeme (List A)
-turns levels p n ts = read_many sql (first sql p) (read_within sql levels p) n ts
+turns levels p n ts = read_many sql (first_kinds sql p) (read_within sql levels p) n ts
 
-module _ {A : Type 0} (levels : ℕ) (p : Sql A) (ks : List Kind) (starts : first sql p ≡ ks) (ts : List Lexeme) where
+module _ {A : Type 0} (levels : ℕ) (p : Sql A) (ks : List Kind) (starts : first_kinds sql p ≡ ks) (ts : List Lexeme) where
   -- the next turn
   pub turn : (n at : ℕ) → at < n → sees sql ks ts ≡ true
       → turns levels p (n - at) ts ≡ (read_within sql levels p ts >>= (λ a us. turns levels p (n - (at + 1)) us >>= (λ xs vs. Ok (a ∷ xs, vs))))
   turn n at below go =
       let more : n - at ≡ suc (n - (at + 1)) = omega arith in
-      ap (λ (m : ℕ). turns levels p m ts) more ∙ take_true (sees sql (first sql p) ts) _ _ _ (ap (λ (l : List Kind). sees sql l ts) starts ∙ go) refl
+      ap (λ (m : ℕ). turns levels p m ts) more ∙ take_true (sees sql (first_kinds sql p) ts) _ _ _ (ap (λ (l : List Kind). sees sql l ts) starts ∙ go) refl
 
-module _ {A S : Type 0} (step : S → A → S) (levels : ℕ) (p : Sql A) (ks : List Kind) (starts : first sql p ≡ ks) (state : S) (ts : List Lexeme) where
+module _ {A S : Type 0} (step : S → A → S) (levels : ℕ) (p : Sql A) (ks : List Kind) (starts : first_kinds sql p ≡ ks) (state : S) (ts : List Lexeme) where
   pub stops : (n : ℕ) → sees sql ks ts ≡ false → folded step state (turns levels p n ts) ≡ Ok (state, ts)
   stops zero s = refl
-  stops (suc n) s = bind_of (turns levels p (suc n) ts) _ [] ts _ (take_false (sees sql (first sql p) ts) _ _ _ (ap (λ (l : List Kind). sees sql l ts) starts ∙ s) refl) refl
+  stops (suc n) s = bind_of (turns levels p (suc n) ts) _ [] ts _ (take_false (sees sql (first_kinds sql p) ts) _ _ _ (ap (λ (l : List Kind). sees sql l ts) starts ∙ s) refl) refl
 
   pub ends : (n at : ℕ) → n ≤ at → folded step state (turns levels p (n - at) ts) ≡ Ok (state, ts)
   ends n at h = let none : n - at ≡ 0 = omega arith in ap (λ (m : ℕ). folded step state (turns levels p m ts)) none

@@ -15,9 +15,9 @@ abbrev pub Reads : {A : Type 0} → Outcome Lexeme A → Result A Fault → List
 Reads outcome (Ok a) new = outcome ≡ Ok (a, new)
 Reads outcome (Err e) new = e ≢ Memory → outcome ≡ Err new
 
--- The same where all of the tokens are to be read.
+-- The same where all of the tokens are to be read, so that none is left behind what was found.
 abbrev pub ReadsAll : {A : Type 0} → Outcome Lexeme A → Result A Fault → List Lexeme → Type 0
-ReadsAll outcome (Ok a) new = whole outcome ≡ Ok a
+ReadsAll outcome (Ok a) new = (whole outcome ≡ Ok a) × (new ≡ [])
 ReadsAll outcome (Err e) new = e ≢ Memory → whole outcome ≡ Err new
 
 abbrev pub kind_ahead : List Lexeme → Option Kind

@@ -1,10 +1,11 @@
-ghost use Rattle.std.specs.Prelude.{◌≡◌, ℕ, [], ◌∷◌, false, Some, length, option_map, pos, MatchOption};
+ghost use Rattle.std.specs.Prelude.{◌≡◌, ◌≢◌, ℕ, [], ◌∷◌, false, Err, length, MatchOption};
 ghost use Rattle.std.specs.List.{AllByRecursion};
 ghost use Rattle.wat_grammar.specs.Phrase.{sees, read_token, read_within};
 ghost use Rattle.wat_lex.specs.Values.{IsSlice};
 ghost use Rattle.wat_lex.specs.Values as values;
 ghost use Rattle.wat_syntax.specs.Lexeme.{lexemes_of};
-ghost use Rattle.wat_syntax.specs.Sql.{sql, optional, sign, some_name, level_value, switch_text};
+ghost use Rattle.wat_syntax.specs.Sql as grammar;
+ghost use Rattle.wat_syntax.specs.Sql.{sql, optional, level_value, switch_text};
 ghost use Rattle.wat_cursor.specs.Reading.{Reads, ComesNext};
 ghost use Rattle.wat_cursor.specs.Reading as spec;
 
@@ -18,6 +19,8 @@ use wat_syntax::Kind;
 use wat_value::Text;
 
 /// The tokens of a statement that are left to read.
+///
+/// What fails with Syntax leaves the cursor at the token that does not fit; what takes no memory fails with nothing else.
 #[derive(Drop)]
 pub struct Cursor<'a> {
     text: &'a str,
@@ -122,7 +125,8 @@ impl<'a> Cursor<'a> {
     /// The word or symbol that is to come next.
     #[tactic(auto, using(crate::proofs::Ahead::word_is))]
     pub fn word(&mut self, kind: Kind) -> Result<(), Fault>
-        ensures { Reads (read_token sql kind (λ _. Some tt) self.old) result self.new }
+        ensures reads { Reads (read_within sql 0 (grammar.word kind) self.old) result self.new }
+        ensures no_memory { result ≢ Err Fault.Memory }
     {
         if !self.sees(kind) {
             return Err(Fault::Syntax);
@@ -134,7 +138,8 @@ impl<'a> Cursor<'a> {
     /// What the word or symbol stands for that is to come next.
     #[tactic(auto, using(crate::proofs::Ahead::word_is))]
     pub fn sign<T: Copy>(&mut self, kind: Kind, value: T) -> Result<T, Fault>
-        ensures { Reads (read_within sql 0 (sign kind value) self.old) result self.new }
+        ensures reads { Reads (read_within sql 0 (grammar.sign kind value) self.old) result self.new }
+        ensures no_memory { result ≢ Err Fault.Memory }
     {
         if !self.sees(kind) {
             return Err(Fault::Syntax);
@@ -143,9 +148,10 @@ impl<'a> Cursor<'a> {
         Ok(value)
     }
 
-    /// The name that is to come next, in lower case.
+    /// The name that is to come next, in lower case. Without memory the cursor stays, as with the two calls on strings.
     pub fn name(&mut self, alloc: Global) -> Result<Name, Fault>
-        ensures { Reads (read_token sql Kind.Name (λ x. some_name x.text) self.old) result self.new }
+        ensures reads { Reads (read_within sql 0 grammar.name self.old) result self.new }
+        ensures kept { result ≡ Err Fault.Memory → self.new ≡ self.old }
     {
         let Some(word) = self.next_of(Kind::Name) else {
             return Err(Fault::Syntax);
@@ -160,7 +166,8 @@ impl<'a> Cursor<'a> {
 
     /// The characters of the string that is to come next.
     pub fn quoted(&mut self, alloc: Global) -> Result<Text, Fault>
-        ensures { Reads (read_token sql Kind.Quoted (λ x. Some x.text) self.old) result self.new }
+        ensures reads { Reads (read_within sql 0 grammar.quoted self.old) result self.new }
+        ensures kept { result ≡ Err Fault.Memory → self.new ≡ self.old }
     {
         let Some(token) = self.next_of(Kind::Quoted) else {
             return Err(Fault::Syntax);
@@ -173,7 +180,8 @@ impl<'a> Cursor<'a> {
 
     /// The value of the number that is to come next.
     pub fn number(&mut self) -> Result<i64, Fault>
-        ensures { Reads (read_token sql Kind.Number (λ x. option_map pos x.number) self.old) result self.new }
+        ensures reads { Reads (read_within sql 0 grammar.number self.old) result self.new }
+        ensures no_memory { result ≢ Err Fault.Memory }
     {
         let Some(digits) = self.next_of(Kind::Number) else {
             return Err(Fault::Syntax);
@@ -187,7 +195,8 @@ impl<'a> Cursor<'a> {
 
     /// The number that is to come next, from 0 to 3.
     pub fn level(&mut self) -> Result<u8, Fault>
-        ensures { Reads (read_token sql Kind.Number (λ x. level_value x.number) self.old) result self.new }
+        ensures reads { Reads (read_token sql Kind.Number (λ x. level_value x.number) self.old) result self.new }
+        ensures no_memory { result ≢ Err Fault.Memory }
     {
         let Some(digits) = self.next_of(Kind::Number) else {
             return Err(Fault::Syntax);
@@ -201,7 +210,8 @@ impl<'a> Cursor<'a> {
 
     /// The string ON or OFF, in any case, that is to come next.
     pub fn quoted_switch(&mut self, alloc: Global) -> Result<bool, Fault>
-        ensures { Reads (read_token sql Kind.Quoted (λ x. switch_text x.text) self.old) result self.new }
+        ensures reads { Reads (read_token sql Kind.Quoted (λ x. switch_text x.text) self.old) result self.new }
+        ensures kept { result ≡ Err Fault.Memory → self.new ≡ self.old }
     {
         let Some(token) = self.next_of(Kind::Quoted) else {
             return Err(Fault::Syntax);

@@ -7,6 +7,3 @@ mod kinds;
 
 pub use cursor::Cursor;
 pub use fault::Fault;
-
-#[cfg(test)]
-mod tests;

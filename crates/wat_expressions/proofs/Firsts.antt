@@ -1,7 +1,7 @@
 -- The tokens with which the phrases begin, and what that makes of a choice.
 use Rattle.std.proofs.Common.{◌≡◌, ℕ, Bool, true, false, List, [], ◌∷◌, Some, if◌then◌else◌, Ok, Err, refl, ◌∙◌, ap}
 use Rattle.wat_ast.specs.declared.expression.Expr.{Expr}
-use Rattle.wat_grammar.specs.Phrase.{Outcome, ◌>>=◌, seq, first, sees, read_within, read_token}
+use Rattle.wat_grammar.specs.Phrase.{Outcome, ◌>>=◌, seq, first_kinds, sees, read_within, read_token}
 use Rattle.wat_grammar.proofs.Outcomes.{bind_assoc, pair_bind}
 use Rattle.wat_syntax.specs.declared.kind.Kind.{Kind}
 use Rattle.wat_syntax.specs.declared.kind.Kind.TheVariants as k
@@ -9,47 +9,47 @@ use Rattle.wat_syntax.specs.Lexeme.{Lexeme}
 use Rattle.wat_syntax.specs.Sql.{Sql, sql, column, parenthesized, count, term_operator, factor, sum_operator, term, conjunction_operator, negation, expression_operator, conjunction, compared, comparison, is_null, between, among, ranged, test, predicate, sum, after, Change}
 use Rattle.wat_expressions.specs.Applied.{read_applied, read_ranged}
 
-pub first_column : first sql column ≡ k.Name ∷ []
+pub first_column : first_kinds sql column ≡ k.Name ∷ []
 unfolding column
 first_column = refl
 
-pub first_parenthesized : first sql parenthesized ≡ k.Open ∷ []
+pub first_parenthesized : first_kinds sql parenthesized ≡ k.Open ∷ []
 unfolding parenthesized
 first_parenthesized = refl
 
-pub first_count : first sql count ≡ k.Count ∷ []
+pub first_count : first_kinds sql count ≡ k.Count ∷ []
 unfolding count
 first_count = refl
 
-pub first_sum : first sql (seq sum_operator term) ≡ k.Plus ∷ k.Minus ∷ k.Concat ∷ []
+pub first_sum : first_kinds sql (seq sum_operator term) ≡ k.Plus ∷ k.Minus ∷ k.Concat ∷ []
 unfolding sum_operator
 first_sum = refl
 
-pub first_term : first sql (seq term_operator factor) ≡ k.Star ∷ k.Slash ∷ []
+pub first_term : first_kinds sql (seq term_operator factor) ≡ k.Star ∷ k.Slash ∷ []
 unfolding term_operator
 first_term = refl
 
-pub first_conjunction : first sql (seq conjunction_operator negation) ≡ k.And ∷ []
+pub first_conjunction : first_kinds sql (seq conjunction_operator negation) ≡ k.And ∷ []
 unfolding conjunction_operator
 first_conjunction = refl
 
-pub first_expression : first sql (seq expression_operator conjunction) ≡ k.Or ∷ []
+pub first_expression : first_kinds sql (seq expression_operator conjunction) ≡ k.Or ∷ []
 unfolding expression_operator
 first_expression = refl
 
-pub first_compared : first sql compared ≡ k.Equal ∷ k.Unequal ∷ k.Less ∷ k.AtMost ∷ k.Greater ∷ k.AtLeast ∷ []
+pub first_compared : first_kinds sql compared ≡ k.Equal ∷ k.Unequal ∷ k.Less ∷ k.AtMost ∷ k.Greater ∷ k.AtLeast ∷ []
 unfolding compared comparison
 first_compared = refl
 
-pub first_is_null : first sql is_null ≡ k.Is ∷ []
+pub first_is_null : first_kinds sql is_null ≡ k.Is ∷ []
 unfolding is_null
 first_is_null = refl
 
-pub first_between : first sql between ≡ k.Between ∷ []
+pub first_between : first_kinds sql between ≡ k.Between ∷ []
 unfolding between
 first_between = refl
 
-pub first_ranged : (negated : Bool) → first sql (ranged negated) ≡ k.Between ∷ k.In ∷ []
+pub first_ranged : (negated : Bool) → first_kinds sql (ranged negated) ≡ k.Between ∷ k.In ∷ []
 unfolding ranged between among
 first_ranged negated = refl
 
@@ -74,7 +74,7 @@ four_ways arg false false true d o p q r s = refl
 four_ways arg false false false true o p q r s = refl
 four_ways arg false false false false o p q r s = refl
 
-firsts : (let z : List Kind × List Kind × List Kind = (first sql compared, first sql is_null, first sql (ranged false)) in z)
+firsts : (let z : List Kind × List Kind × List Kind = (first_kinds sql compared, first_kinds sql is_null, first_kinds sql (ranged false)) in z)
     ≡ (k.Equal ∷ k.Unequal ∷ k.Less ∷ k.AtMost ∷ k.Greater ∷ k.AtLeast ∷ [], k.Is ∷ [], k.Between ∷ k.In ∷ [])
 unfolding compared comparison is_null ranged between among
 firsts = refl

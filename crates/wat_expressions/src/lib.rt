@@ -7,6 +7,3 @@ mod reader;
 mod reading;
 
 pub use reading::{column, expression, expressions};
-
-#[cfg(test)]
-mod tests;

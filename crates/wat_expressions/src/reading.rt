@@ -15,7 +15,7 @@ use wat_syntax::{Kind, Nest};
 /// How many levels an expression may open, one inside the other.
 const MAX_NESTING: usize = 100;
 
-/// The expression that is to come next.
+/// The expression that is to come next. After want of memory the cursor is not used, as with the two calls below.
 pub fn expression(alloc: Global, cursor: &mut Cursor<'_>) -> Result<Expr, Fault>
     ensures { Reads (read_within sql max_nesting spec.expression cursor.old) result cursor.new }
 {

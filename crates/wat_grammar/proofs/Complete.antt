@@ -1,6 +1,6 @@
 -- What is derived is read, where the next token doesn't go on with it.
 use Rattle.std.proofs.Common.{◌≡◌, ◌==◌, ℕ, zero, suc, ◌≤◌, ◌<◌, Bool, true, false, ◌&&◌, ◌||◌, not, if◌then◌else◌, List, [], ◌∷◌, ◌++◌, length, Ok, ◌⊎◌, inl, inr, refl, sym, ◌∙◌, ap, subst, append_assoc, arith, length-append}
-use Rattle.wat_grammar.specs.Phrase.{Phrase, token, empty, seq, or, many, map, level, nested, Grammar, Repeats, Derives, Outcome, gives, sees, is_nullable, first, read_token, read_many, read}
+use Rattle.wat_grammar.specs.Phrase.{Phrase, token, empty, seq, or, many, map, level, nested, Grammar, Repeats, Derives, Outcome, gives, sees, can_be_empty, first_kinds, read_token, read_many, read}
 use Rattle.wat_grammar.specs.Predictive.{more, are_apart, is_predictive}
 use Rattle.wat_grammar.proofs.Outcomes.{and_true, not_true, take_true, take_false, bind_of}
 use Rattle.wat_grammar.proofs.Choice.{sees_left, sees_right, sees_neither, sees_front, sees_apart}
@@ -32,24 +32,24 @@ module _ {K X N E : Type 0} (g : Grammar K X N E) where
 
 module _ {K X N E : Type 0} (g : Grammar K X N E) (same_refl : (a : K) → g.same a a ≡ true) (levels : ℕ) (Inside : N → List X → E → Type 0)
     (begins_inside : (n : N) (ts : List X) (e : E) → Inside n ts e → sees g (g.entry n) ts ≡ true) where
-  pub begins : {A : Type 0} (p : Phrase K X N E A) (ts : List X) (a : A) → Derives g levels Inside p ts a → BeginsBy g (is_nullable p) (first g p) ts
+  pub begins : {A : Type 0} (p : Phrase K X N E A) (ts : List X) (a : A) → Derives g levels Inside p ts a → BeginsBy g (can_be_empty p) (first_kinds g p) ts
   begins (token k f) ts a d = inr (ap (sees g (k ∷ [])) d.1 ∙ (ap (λ j. g.same j k || false) d.2 ∙ ap (λ b. b || false) (same_refl k)))
   begins (empty b) ts a d = inl (d.0, refl)
-  begins (seq p q) ts a d = subst (BeginsBy g (is_nullable (seq p q)) (first g (seq p q))) (sym d.2)
-      (begins_seq g (is_nullable p) (is_nullable q) (first g p) (first g q) d.0 d.1 (begins p d.0 a.0 d.3) (begins q d.1 a.1 d.4))
+  begins (seq p q) ts a d = subst (BeginsBy g (can_be_empty (seq p q)) (first_kinds g (seq p q))) (sym d.2)
+      (begins_seq g (can_be_empty p) (can_be_empty q) (first_kinds g p) (first_kinds g q) d.0 d.1 (begins p d.0 a.0 d.3) (begins q d.1 a.1 d.4))
   begins (or p q) ts a (inl d) = elim (begins p ts a d) [
-    | inl h ↦ inl (h.0, ap (λ b. b || is_nullable q) h.1)
-    | inr s ↦ inr (sees_left g (first g p) (first g q) ts s)
+    | inl h ↦ inl (h.0, ap (λ b. b || can_be_empty q) h.1)
+    | inr s ↦ inr (sees_left g (first_kinds g p) (first_kinds g q) ts s)
   ]
   begins (or p q) ts a (inr d) = elim (begins q ts a d) [
-    | inl h ↦ inl (h.0, ap (λ b. is_nullable p || b) h.1 ∙ any_true (is_nullable p))
-    | inr s ↦ inr (sees_right g (first g p) (first g q) ts s)
+    | inl h ↦ inl (h.0, ap (λ b. can_be_empty p || b) h.1 ∙ any_true (can_be_empty p))
+    | inr s ↦ inr (sees_right g (first_kinds g p) (first_kinds g q) ts s)
   ]
     where
       any_true : (b : Bool) → (b || true) ≡ true
       any_true true = refl
       any_true false = refl
-  begins (many p) ts xs d = begins_many g (is_nullable p) (first g p) (Derives g levels Inside p) (begins p) ts xs d
+  begins (many p) ts xs d = begins_many g (can_be_empty p) (first_kinds g p) (Derives g levels Inside p) (begins p) ts xs d
   begins (map f p) ts a d = begins p ts d.0 d.1
   begins (level p) ts a d = begins p ts a d.1
   begins (nested n) ts e d = inr (begins_inside n ts e d)
@@ -112,32 +112,32 @@ module _ {K X N E : Type 0} (g : Grammar K X N E) (example : K → X) (same_true
       let v1 = and_true (is_predictive g example deep p) _ v in
       let v2 = and_true (is_predictive g example deep q) _ v1.1 in
       let same : us ++ r ≡ d.0 ++ (d.1 ++ r) = ap (λ z. z ++ r) d.2 ∙ append_assoc d.0 d.1 r in
-      let between : sees g (more g p) (d.1 ++ r) ≡ false = quiet g same_true (is_nullable q) (more g p) (first g q) (first g q) d.1 r v2.1
-      (begins g same_refl levels Inside begins_inside q d.1 a.1 d.4) (more_first (is_nullable q) (more g p) (more g q) r s) in
+      let between : sees g (more g p) (d.1 ++ r) ≡ false = quiet g same_true (can_be_empty q) (more g p) (first_kinds g q) (first_kinds g q) d.1 r v2.1
+      (begins g same_refl levels Inside begins_inside q d.1 a.1 d.4) (more_first (can_be_empty q) (more g p) (more g q) r s) in
       ap (read g levels inside (seq p q)) same
       ∙ bind_of (read g levels inside p (d.0 ++ (d.1 ++ r))) _ a.0 (d.1 ++ r) _ (complete deep p v1.0 d.0 a.0 (d.1 ++ r) d.3 between)
-      (bind_of (read g levels inside q (d.1 ++ r)) _ a.1 r _ (complete deep q v2.0 d.1 a.1 r d.4 (more_second (is_nullable q) (more g p) (more g q) r s)) refl)
+      (bind_of (read g levels inside q (d.1 ++ r)) _ a.1 r _ (complete deep q v2.0 d.1 a.1 r d.4 (more_second (can_be_empty q) (more g p) (more g q) r s)) refl)
   complete deep (or p q) v us a r (inl d) s =
       let v1 = and_true (is_predictive g example deep p) _ v in
       let v2 = and_true (is_predictive g example deep q) _ v1.1 in
-      let v3 = and_true (are_apart g (first g p) (first g q)) _ v2.1 in
-      let v4 = and_true (not (is_nullable p)) _ v3.1 in
-      let start : sees g (first g p) us ≡ true = must_begin g (is_nullable p) (first g p) us v4.0 (begins g same_refl levels Inside begins_inside p us a d) in
-      let none : sees g (more g p ++ more g q) r ≡ false = more_second (is_nullable q) (first g p) (more g p ++ more g q) r s in
-      take_true (sees g (first g p) (us ++ r)) _ _ _ (sees_front g (first g p) us r start) (complete deep p v1.0 us a r d (sees_neither g (more g p) (more g q) r none).0)
+      let v3 = and_true (are_apart g (first_kinds g p) (first_kinds g q)) _ v2.1 in
+      let v4 = and_true (not (can_be_empty p)) _ v3.1 in
+      let start : sees g (first_kinds g p) us ≡ true = must_begin g (can_be_empty p) (first_kinds g p) us v4.0 (begins g same_refl levels Inside begins_inside p us a d) in
+      let none : sees g (more g p ++ more g q) r ≡ false = more_second (can_be_empty q) (first_kinds g p) (more g p ++ more g q) r s in
+      take_true (sees g (first_kinds g p) (us ++ r)) _ _ _ (sees_front g (first_kinds g p) us r start) (complete deep p v1.0 us a r d (sees_neither g (more g p) (more g q) r none).0)
   complete deep (or p q) v us a r (inr d) s =
       let v1 = and_true (is_predictive g example deep p) _ v in
       let v2 = and_true (is_predictive g example deep q) _ v1.1 in
-      let v3 = and_true (are_apart g (first g p) (first g q)) _ v2.1 in
-      let none : sees g (more g p ++ more g q) r ≡ false = more_second (is_nullable q) (first g p) (more g p ++ more g q) r s in
-      let other : sees g (first g p) (us ++ r) ≡ false = quiet g same_true (is_nullable q) (first g p) (first g q) (first g q) us r v3.0
-      (begins g same_refl levels Inside begins_inside q us a d) (more_first (is_nullable q) (first g p) (more g p ++ more g q) r s) in
-      take_false (sees g (first g p) (us ++ r)) _ _ _ other (complete deep q v2.0 us a r d (sees_neither g (more g p) (more g q) r none).1)
+      let v3 = and_true (are_apart g (first_kinds g p) (first_kinds g q)) _ v2.1 in
+      let none : sees g (more g p ++ more g q) r ≡ false = more_second (can_be_empty q) (first_kinds g p) (more g p ++ more g q) r s in
+      let other : sees g (first_kinds g p) (us ++ r) ≡ false = quiet g same_true (can_be_empty q) (first_kinds g p) (first_kinds g q) (first_kinds g q) us r v3.0
+      (begins g same_refl levels Inside begins_inside q us a d) (more_first (can_be_empty q) (first_kinds g p) (more g p ++ more g q) r s) in
+      take_false (sees g (first_kinds g p) (us ++ r)) _ _ _ other (complete deep q v2.0 us a r d (sees_neither g (more g p) (more g q) r none).1)
   complete deep (many p) v us xs r d s =
       let v1 = and_true (is_predictive g example deep p) _ v in
-      let v2 = and_true (not (is_nullable p)) _ v1.1 in
-      let v3 = and_true (are_apart g (more g p) (first g p)) _ v2.1 in
-      many_complete g same_true (is_nullable p) (first g p) (more g p) (Derives g levels Inside p) (read g levels inside p)
+      let v2 = and_true (not (can_be_empty p)) _ v1.1 in
+      let v3 = and_true (are_apart g (more g p) (first_kinds g p)) _ v2.1 in
+      many_complete g same_true (can_be_empty p) (first_kinds g p) (more g p) (Derives g levels Inside p) (read g levels inside p)
       (begins g same_refl levels Inside begins_inside p) (complete deep p v1.0) v2.0 v3.0 (length (us ++ r)) xs us r d s (omega arith)
   complete deep (map f p) v us a r d s = bind_of (read g levels inside p (us ++ r)) _ d.0 r _ (complete deep p v us d.0 r d.1 s) (ap (λ c. Ok (c, r)) (sym d.2))
   complete deep (level p) v us a r d s = take_false (levels == 0) _ _ _ d.0 (complete true p v us a r d.1 s)

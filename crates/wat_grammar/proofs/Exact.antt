@@ -2,7 +2,7 @@
 use Rattle.std.proofs.Common.{◌≡◌, ◌==◌, ℕ, zero, suc, true, false, not, List, [], ◌∷◌, ◌++◌, Result, Ok, Err, refl, sym, ◌∙◌, ap, subst}
 use Rattle.std.proofs.lemmas.List.{append-nil}
 use Rattle.std.specs.List.{AllByRecursion}
-use Rattle.wat_grammar.specs.Phrase.{Phrase, Grammar, Outcome, DerivesInside, DerivesWithin, sees, is_nullable, first, read_inside, read_within, whole, FailsAt}
+use Rattle.wat_grammar.specs.Phrase.{Phrase, Grammar, Outcome, DerivesInside, DerivesWithin, sees, can_be_empty, first_kinds, read_inside, read_within, whole, FailsAt}
 use Rattle.wat_grammar.specs.Predictive.{more, is_part, is_predictive, is_alive, IsPredictive}
 use Rattle.wat_grammar.proofs.Outcomes.{and_true}
 use Rattle.wat_grammar.proofs.Choice.{sees_part, sees_part_none}
@@ -33,18 +33,18 @@ module _ {K X N E : Type 0} (g : Grammar K X N E) (example : K → X) (h : IsPre
   }
   right (suc levels) n =
       let v = and_true (is_predictive g example false (g.rule n)) _ (h.rules n) in
-      let v2 = and_true (is_part g (first g (g.rule n)) (g.entry n)) _ v.1 in
+      let v2 = and_true (is_part g (first_kinds g (g.rule n)) (g.entry n)) _ v.1 in
       let v3 = and_true (is_part g (more g (g.rule n)) (g.exit n)) _ v2.1 in
-      let v4 = and_true (not (is_nullable (g.rule n))) _ v3.1 in
+      let v4 = and_true (not (can_be_empty (g.rule n))) _ v3.1 in
       let deep = not (levels == 0) in
       let starts_in = λ (m : N). (right levels m).starts in
       let sound_in = λ (m : N). (right levels m).is_sound in
       let ends_in = λ (m : N). (right levels m).has_ends in
       let some_in = λ (m : N). (right levels m).has_some in
-      let start : (ts : List X) (e : E) → DerivesInside g (suc levels) n ts e → sees g (first g (g.rule n)) ts ≡ true
-      = λ ts e d. must_begin g (is_nullable (g.rule n)) (first g (g.rule n)) ts v4.0 (begins g h.same_refl levels (DerivesInside g levels) starts_in (g.rule n) ts e d) in
+      let start : (ts : List X) (e : E) → DerivesInside g (suc levels) n ts e → sees g (first_kinds g (g.rule n)) ts ≡ true
+      = λ ts e d. must_begin g (can_be_empty (g.rule n)) (first_kinds g (g.rule n)) ts v4.0 (begins g h.same_refl levels (DerivesInside g levels) starts_in (g.rule n) ts e d) in
       record {
-        starts = λ ts e d. sees_part g h.same_true (first g (g.rule n)) (g.entry n) ts v2.0 (start ts e d);
+        starts = λ ts e d. sees_part g h.same_true (first_kinds g (g.rule n)) (g.entry n) ts v2.0 (start ts e d);
         is_sound = sound g h.same_true levels (read_inside g levels) (DerivesInside g levels) sound_in (g.rule n);
         is_complete = λ us e r d s. complete g example h.same_true h.same_refl levels (read_inside g levels) (DerivesInside g levels) starts_in (λ m. (right levels m).is_complete)
             false (g.rule n) v.0 us e r d (sees_part_none g h.same_true (more g (g.rule n)) (g.exit n) r v3.0 s);

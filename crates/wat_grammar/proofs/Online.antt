@@ -1,6 +1,6 @@
 -- An outcome depends on no token after the first that is left.
 use Rattle.std.proofs.Common.{◌≡◌, ◌==◌, ℕ, zero, suc, ◌≤◌, ◌<◌, Bool, true, false, not, cond, List, [], ◌∷◌, ◌++◌, length, Option, Some, None, Ok, Err, refl, sym, ◌∙◌, ap, subst, append_assoc, arith, length-append}
-use Rattle.wat_grammar.specs.Phrase.{Phrase, token, empty, seq, or, many, map, level, nested, Grammar, Outcome, ◌>>=◌, gives, sees, is_nullable, first, read_token, read_many, read}
+use Rattle.wat_grammar.specs.Phrase.{Phrase, token, empty, seq, or, many, map, level, nested, Grammar, Outcome, ◌>>=◌, gives, sees, can_be_empty, first_kinds, read_token, read_many, read}
 use Rattle.std.proofs.lemmas.List.{append_cancel_right}
 use Rattle.wat_grammar.specs.Predictive.{is_predictive}
 use Rattle.wat_grammar.proofs.Outcomes.{and_true, bind_of}
@@ -123,8 +123,8 @@ module _ {K X N E : Type 0} (g : Grammar K X N E) (levels : ℕ) (inside : N →
   ends (token k f) ts = token_ends k f ts
   ends (empty a) ts = ([], refl)
   ends (seq p q) ts = end_bind ts (read g levels inside p ts) _ (ends p ts) (λ a us. end_bind us (read g levels inside q us) _ (ends q us) (λ b ws. ([], refl)))
-  ends (or p q) ts = end_if ts (sees g (first g p) ts) _ _ (ends p ts) (ends q ts)
-  ends (many p) ts = many_ends g (first g p) (read g levels inside p) (ends p) (length ts) ts
+  ends (or p q) ts = end_if ts (sees g (first_kinds g p) ts) _ _ (ends p ts) (ends q ts)
+  ends (many p) ts = many_ends g (first_kinds g p) (read g levels inside p) (ends p) (length ts) ts
   ends (map f p) ts = end_bind ts (read g levels inside p ts) _ (ends p ts) (λ a us. ([], refl))
   ends (level p) ts = end_if ts (levels == 0) _ _ ([], refl) (ends p ts)
   ends (nested n) ts = ends_inside n ts
@@ -134,10 +134,10 @@ module _ {K X N E : Type 0} (g : Grammar K X N E) (example : K → X) (same_true
     (begins_inside : (n : N) (ts : List X) (e : E) → Inside n ts e → sees g (g.entry n) ts ≡ true)
     (sound_inside : (n : N) (ts : List X) (e : E) (r : List X) → inside n ts ≡ Ok (e, r) → Takes (Inside n) ts e r)
     (ends_inside : (n : N) (ts : List X) → LeavesEnd ts (inside n ts)) where
-  shorter : {A : Type 0} (p : Phrase K X N E A) → not (is_nullable p) ≡ true → (ts : List X) (a : A) (r : List X) → read g levels inside p ts ≡ Ok (a, r) → length r < length ts
+  shorter : {A : Type 0} (p : Phrase K X N E A) → not (can_be_empty p) ≡ true → (ts : List X) (a : A) (r : List X) → read g levels inside p ts ≡ Ok (a, r) → length r < length ts
   shorter p v ts a r e =
       let t = sound g same_true levels inside Inside sound_inside p ts a r e in
-      let some : 0 < length t.0 = some_token g (first g p) t.0 (must_begin g (is_nullable p) (first g p) t.0 v (begins g same_refl levels Inside begins_inside p t.0 a t.2)) in
+      let some : 0 < length t.0 = some_token g (first_kinds g p) t.0 (must_begin g (can_be_empty p) (first_kinds g p) t.0 v (begins g same_refl levels Inside begins_inside p t.0 a t.2)) in
       let long : length ts ≡ length (t.0 ++ r) = ap length t.1 in
       omega (arith, length-append t.0 r)
 
@@ -154,11 +154,11 @@ module _ {K X N E : Type 0} (g : Grammar K X N E) (example : K → X) (same_true
         (λ b zs. ([], refl)) (λ b zs _ _. alike_ok x vs vs' (a, b) zs))
     online deep (or p q) v us =
         let v1 = and_true (is_predictive g example deep p) _ v in
-        alike_if x vs vs' (sees g (first g p) (us ++ x ∷ vs)) (sees g (first g p) (us ++ x ∷ vs')) _ _ _ _ (sees_alike g x vs vs' (first g p) us) (online deep p v1.0 us)
+        alike_if x vs vs' (sees g (first_kinds g p) (us ++ x ∷ vs)) (sees g (first_kinds g p) (us ++ x ∷ vs')) _ _ _ _ (sees_alike g x vs vs' (first_kinds g p) us) (online deep p v1.0 us)
         (online deep q (and_true (is_predictive g example deep q) _ v1.1).0 us)
     online deep (many p) v us =
         let v1 = and_true (is_predictive g example deep p) _ v in
-        many_online g x vs vs' (first g p) (read g levels inside p) (ends g levels inside ends_inside p) (shorter p (and_true (not (is_nullable p)) _ v1.1).0) (online deep p v1.0)
+        many_online g x vs vs' (first_kinds g p) (read g levels inside p) (ends g levels inside ends_inside p) (shorter p (and_true (not (can_be_empty p)) _ v1.1).0) (online deep p v1.0)
         (length (us ++ x ∷ vs)) (length (us ++ x ∷ vs')) us (omega arith) (omega arith)
     online deep (map f p) v us = alike_bind x vs vs' (read g levels inside p (us ++ x ∷ vs)) (read g levels inside p (us ++ x ∷ vs')) _ _ (online deep p v us) (λ a ws. ([], refl)) (λ a ws _ _. alike_ok x vs vs' (f a) ws)
     online deep (level p) v us = alike_if x vs vs' (levels == 0) (levels == 0) _ _ _ _ refl (alike_err x vs vs' us) (online true p v us)

@@ -1,6 +1,6 @@
 -- What is read was derived.
 use Rattle.std.proofs.Common.{◌≡◌, ◌==◌, ℕ, zero, suc, true, List, [], ◌∷◌, ◌++◌, length, Option, Some, None, Ok, inl, inr, refl, sym, ◌∙◌, ap, subst}
-use Rattle.wat_grammar.specs.Phrase.{Phrase, token, empty, seq, or, many, map, level, nested, Grammar, Repeats, Derives, Outcome, gives, sees, first, read_token, read_many, read}
+use Rattle.wat_grammar.specs.Phrase.{Phrase, token, empty, seq, or, many, map, level, nested, Grammar, Repeats, Derives, Outcome, gives, sees, first_kinds, read_token, read_many, read}
 use Rattle.wat_grammar.proofs.Outcomes.{chosen, bind_ok, ok_parts, rest_of}
 
 -- some of the tokens are derived, and the rest is left
@@ -52,11 +52,11 @@ module _ {K X N E : Type 0} (g : Grammar K X N E) (same_true : (a b : K) → g.s
         rest_of ts t.0 o.1 behind.0 second.1 r t.1 behind.1 d.1,
         subst (Derives g levels Inside (seq p q) (t.0 ++ behind.0)) d.0 (t.0, behind.0, refl, t.2, behind.2),
       )
-  sound (or p q) ts a r e = elim (chosen (sees g (first g p) ts) _ _ _ e) [
+  sound (or p q) ts a r e = elim (chosen (sees g (first_kinds g p) ts) _ _ _ e) [
     | inl c ↦ (let t = sound p ts a r c.1 in (t.0, t.1, inl t.2))
     | inr c ↦ (let t = sound q ts a r c.1 in (t.0, t.1, inr t.2))
   ]
-  sound (many p) ts a r e = many_sound g (first g p) (read g levels inside p) (Derives g levels Inside p) (sound p) (length ts) ts a r e
+  sound (many p) ts a r e = many_sound g (first_kinds g p) (read g levels inside p) (Derives g levels Inside p) (sound p) (length ts) ts a r e
   sound (map f p) ts a r e =
       let o = bind_ok (read g levels inside p ts) _ _ e in
       let t = sound p ts o.0 o.1 o.2 in

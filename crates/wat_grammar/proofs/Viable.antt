@@ -2,7 +2,7 @@
 use Rattle.std.proofs.Common.{◌≡◌, ◌==◌, ℕ, zero, suc, Bool, true, false, ◌&&◌, ◌||◌, not, List, [], ◌∷◌, ◌++◌, length, Option, Some, None, is_some, Ok, Err, ◌⊎◌, inl, inr, refl, sym, ◌∙◌, ap, append_assoc}
 use Rattle.std.proofs.lemmas.List.{append-nil}
 use Rattle.std.specs.List.{AllByRecursion}
-use Rattle.wat_grammar.specs.Phrase.{Phrase, token, empty, seq, or, many, map, level, nested, Grammar, Repeats, Derives, Outcome, gives, sees, is_nullable, first, read_token, read_many, read}
+use Rattle.wat_grammar.specs.Phrase.{Phrase, token, empty, seq, or, many, map, level, nested, Grammar, Repeats, Derives, Outcome, gives, sees, can_be_empty, first_kinds, read_token, read_many, read}
 use Rattle.wat_grammar.specs.Predictive.{more, are_apart, is_predictive, is_safe, is_alive, is_level}
 use Rattle.wat_grammar.proofs.Outcomes.{chosen, and_true, or_true, not_true, take_true, bind_err, bind_err_of, either}
 use Rattle.wat_grammar.proofs.Sound.{Takes, sound}
@@ -90,7 +90,7 @@ module _ {K X N E : Type 0} (g : Grammar K X N E) (example : K → X) (same_true
   refused (token k f) l z ts = cc
   refused (empty a) l z ts = cc
   refused (seq p q) l z ts = cc
-  refused (or p q) l z ts = either (sees g (first g p) ts) _ _ _ (refused p (and_true (is_level p) (is_level q) l).0 z ts) (refused q (and_true (is_level p) (is_level q) l).1 z ts)
+  refused (or p q) l z ts = either (sees g (first_kinds g p) ts) _ _ _ (refused p (and_true (is_level p) (is_level q) l).0 z ts) (refused q (and_true (is_level p) (is_level q) l).1 z ts)
   refused (many p) l z ts = cc
   refused (map f p) l z ts = bind_err_of (read g levels inside p ts) _ ts (refused p l z ts)
   refused (level p) l z ts = take_true (levels == 0) _ _ _ z refl
@@ -155,11 +155,11 @@ module _ {K X N E : Type 0} (g : Grammar K X N E) (example : K → X) (same_true
   viable flag deep (or p q) i h v l ts r e =
       let v1 = and_true (is_predictive g example flag p) _ v in
       let v2 = and_true (is_predictive g example flag q) _ v1.1 in
-      let v3 = and_true (are_apart g (first g p) (first g q)) _ v2.1 in
-      let v4 = and_true (not (is_nullable p)) _ v3.1 in
+      let v3 = and_true (are_apart g (first_kinds g p) (first_kinds g q)) _ v2.1 in
+      let v4 = and_true (not (can_be_empty p)) _ v3.1 in
       let v5 = and_true (is_safe flag p) _ v4.1 in
       let s = some flag deep (or p q) h v l in
-      elim (chosen (sees g (first g p) ts) _ _ _ e) [
+      elim (chosen (sees g (first_kinds g p) ts) _ _ _ e) [
         | inl c ↦ elim (safe_cases flag deep p i h v5.0) [
           | inl m ↦ (let w = viable flag deep p i h v1.0 m ts r c.1 in (w.0, w.1, w.2, w.3, inl w.4, w.5))
           | inr x ↦ ([], s.0, s.1, err_same ts r (sym (x ts) ∙ c.1), s.2, s.3)
@@ -171,9 +171,9 @@ module _ {K X N E : Type 0} (g : Grammar K X N E) (example : K → X) (same_true
       ]
   viable flag deep (many p) i h v l ts r e =
       let v1 = and_true (is_predictive g example flag p) _ v in
-      let v2 = and_true (not (is_nullable p)) _ v1.1 in
-      let v3 = and_true (are_apart g (more g p) (first g p)) _ v2.1 in
-      many_viable g (first g p) (Derives g levels Inside p) (read g levels inside p) (sound g same_true levels inside Inside sound_inside p)
+      let v2 = and_true (not (can_be_empty p)) _ v1.1 in
+      let v3 = and_true (are_apart g (more g p) (first_kinds g p)) _ v2.1 in
+      many_viable g (first_kinds g p) (Derives g levels Inside p) (read g levels inside p) (sound g same_true levels inside Inside sound_inside p)
       (λ ts r e. elim (safe_cases flag deep p i h v3.1) [ inl m ↦ inr (viable flag deep p i h v1.0 m ts r e) | inr x ↦ inl (err_same ts r (sym (x ts) ∙ e)) ])
       (length ts) ts r e
   viable flag deep (map f p) i h v l ts r e = elim (bind_err (read g levels inside p ts) _ r e) [

@@ -78,26 +78,26 @@ abbrev pub sees : {K X N E : Type 0} → Grammar K X N E → List K → List X �
 sees g ks [] = false
 sees g ks (x ∷ ts) = has g ks (g.kind x)
 
-abbrev pub is_nullable : {K X N E A : Type 0} → Phrase K X N E A → Bool
-is_nullable (token k f) = false
-is_nullable (empty a) = true
-is_nullable (seq p q) = is_nullable p && is_nullable q
-is_nullable (or p q) = is_nullable p || is_nullable q
-is_nullable (many p) = true
-is_nullable (map f p) = is_nullable p
-is_nullable (level p) = is_nullable p
-is_nullable (nested n) = false
+abbrev pub can_be_empty : {K X N E A : Type 0} → Phrase K X N E A → Bool
+can_be_empty (token k f) = false
+can_be_empty (empty a) = true
+can_be_empty (seq p q) = can_be_empty p && can_be_empty q
+can_be_empty (or p q) = can_be_empty p || can_be_empty q
+can_be_empty (many p) = true
+can_be_empty (map f p) = can_be_empty p
+can_be_empty (level p) = can_be_empty p
+can_be_empty (nested n) = false
 
 -- the kinds of token with which the phrase may begin
-abbrev pub first : {K X N E A : Type 0} → Grammar K X N E → Phrase K X N E A → List K
-first g (token k f) = k ∷ []
-first g (empty a) = []
-first g (seq p q) = if is_nullable p then first g p ++ first g q else first g p
-first g (or p q) = first g p ++ first g q
-first g (many p) = first g p
-first g (map f p) = first g p
-first g (level p) = first g p
-first g (nested n) = g.entry n
+abbrev pub first_kinds : {K X N E A : Type 0} → Grammar K X N E → Phrase K X N E A → List K
+first_kinds g (token k f) = k ∷ []
+first_kinds g (empty a) = []
+first_kinds g (seq p q) = if can_be_empty p then first_kinds g p ++ first_kinds g q else first_kinds g p
+first_kinds g (or p q) = first_kinds g p ++ first_kinds g q
+first_kinds g (many p) = first_kinds g p
+first_kinds g (map f p) = first_kinds g p
+first_kinds g (level p) = first_kinds g p
+first_kinds g (nested n) = g.entry n
 
 abbrev pub gives : {X A : Type 0} → X → List X → Option A → Outcome X A
 gives x ts (Some a) = Ok (a, ts)
@@ -116,8 +116,8 @@ abbrev pub read : {K X N E A : Type 0} → Grammar K X N E → (levels : ℕ) (i
 read g levels inside (token k f) ts = read_token g k f ts
 read g levels inside (empty a) ts = Ok (a, ts)
 read g levels inside (seq p q) ts = read g levels inside p ts >>= (λ a us. read g levels inside q us >>= (λ b vs. Ok ((a, b), vs)))
-read g levels inside (or p q) ts = if sees g (first g p) ts then read g levels inside p ts else read g levels inside q ts
-read g levels inside (many p) ts = read_many g (first g p) (read g levels inside p) (length ts) ts
+read g levels inside (or p q) ts = if sees g (first_kinds g p) ts then read g levels inside p ts else read g levels inside q ts
+read g levels inside (many p) ts = read_many g (first_kinds g p) (read g levels inside p) (length ts) ts
 read g levels inside (map f p) ts = read g levels inside p ts >>= (λ a us. Ok (f a, us))
 read g levels inside (level p) ts = if levels == 0 then Err ts else read g levels inside p ts
 read g levels inside (nested n) ts = inside n ts

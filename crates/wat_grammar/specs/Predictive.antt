@@ -1,15 +1,15 @@
 -- Whether one token ahead is enough to read by a grammar.
 use Rattle.std.specs.Prelude.{◌≡◌, Bool, true, false, ◌&&◌, ◌||◌, not, if◌then◌else◌, List, [], ◌++◌, Option, is_some}
 use Rattle.std.specs.List.{list_all}
-use Rattle.wat_grammar.specs.Phrase.{Phrase, token, empty, seq, or, many, map, level, nested, Grammar, has, is_nullable, first}
+use Rattle.wat_grammar.specs.Phrase.{Phrase, token, empty, seq, or, many, map, level, nested, Grammar, has, can_be_empty, first_kinds}
 
 -- the kinds of token with which the phrase may go on where it could end
 abbrev pub more : {K X N E A : Type 0} → Grammar K X N E → Phrase K X N E A → List K
 more g (token k f) = []
 more g (empty a) = []
-more g (seq p q) = if is_nullable q then more g p ++ more g q else more g q
-more g (or p q) = if is_nullable q then first g p ++ (more g p ++ more g q) else more g p ++ more g q
-more g (many p) = first g p ++ more g p
+more g (seq p q) = if can_be_empty q then more g p ++ more g q else more g q
+more g (or p q) = if can_be_empty q then first_kinds g p ++ (more g p ++ more g q) else more g p ++ more g q
+more g (many p) = first_kinds g p ++ more g p
 more g (map f p) = more g p
 more g (level p) = more g p
 more g (nested n) = g.exit n
@@ -54,9 +54,9 @@ is_example g k f x = g.same (g.kind x) k && is_some (f x)
 abbrev pub is_predictive : {K X N E A : Type 0} → Grammar K X N E → (K → X) → (deep : Bool) → Phrase K X N E A → Bool
 is_predictive g example deep (token k f) = is_example g k f (example k)
 is_predictive g example deep (empty a) = true
-is_predictive g example deep (seq p q) = is_predictive g example deep p && (is_predictive g example deep q && are_apart g (more g p) (first g q))
-is_predictive g example deep (or p q) = is_predictive g example deep p && (is_predictive g example deep q && (are_apart g (first g p) (first g q) && (not (is_nullable p) && (is_safe deep p && is_safe deep q))))
-is_predictive g example deep (many p) = is_predictive g example deep p && (not (is_nullable p) && (are_apart g (more g p) (first g p) && is_safe deep p))
+is_predictive g example deep (seq p q) = is_predictive g example deep p && (is_predictive g example deep q && are_apart g (more g p) (first_kinds g q))
+is_predictive g example deep (or p q) = is_predictive g example deep p && (is_predictive g example deep q && (are_apart g (first_kinds g p) (first_kinds g q) && (not (can_be_empty p) && (is_safe deep p && is_safe deep q))))
+is_predictive g example deep (many p) = is_predictive g example deep p && (not (can_be_empty p) && (are_apart g (more g p) (first_kinds g p) && is_safe deep p))
 is_predictive g example deep (map f p) = is_predictive g example deep p
 is_predictive g example deep (level p) = is_predictive g example true p
 is_predictive g example deep (nested n) = true
@@ -64,8 +64,8 @@ is_predictive g example deep (nested n) = true
 -- the phrase of that name begins and goes on as said, and isn't out of reach
 abbrev pub is_sound_rule : {K X N E : Type 0} → Grammar K X N E → (K → X) → N → Bool
 is_sound_rule g example n =
-    is_predictive g example false (g.rule n) && (is_part g (first g (g.rule n)) (g.entry n) && (is_part g (more g (g.rule n)) (g.exit n)
-    && (not (is_nullable (g.rule n)) && is_alive false (g.rule n))))
+    is_predictive g example false (g.rule n) && (is_part g (first_kinds g (g.rule n)) (g.entry n) && (is_part g (more g (g.rule n)) (g.exit n)
+    && (not (can_be_empty (g.rule n)) && is_alive false (g.rule n))))
 
 -- The kinds are told apart, the examples are tokens that some text has, and each phrase that nests is as its grammar says.
 pub record IsPredictive {K X N E : Type 0} (g : Grammar K X N E) (example : K → X) : Type 0 where

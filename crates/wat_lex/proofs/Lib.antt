@@ -1,7 +1,10 @@
 pub mod Cuts
+pub mod Fronts
+pub mod OneCut
 pub mod Parts
 pub mod Pieces
 pub mod Rules
+pub mod Sets
 pub mod Slices
 pub mod Unread
 pub mod Values

@@ -12,6 +12,7 @@ use Rattle.wat_lex.specs.declared.token.TokenKind.TheVariants.{Word, Number, Quo
 use Rattle.wat_lex.specs.Tokens.{Piece, is_blank, is_no_line_feed, bad, ended, word, value_of, number, closing, quoted, comment_end, comment, is_pair, is_single, symbol, piece}
 use Rattle.wat_lex.specs.Rules.{decimal, doubled, opens_comment, IsRead, has_close, IsSkipped}
 use Rattle.wat_lex.proofs.Pieces.{prefix_some}
+use Rattle.wat_lex.proofs.Sets.{blanks_same, pair_same, single_same}
 
 -- ---- tests
 
@@ -100,7 +101,7 @@ head_of_front p z h e = get_or-take (prefix_len p z) z 0 0 (prefix_some p z h e)
 -- ---- blanks, words and numbers
 
 blanks_good : (z : List ℕ) → 0 < length z → is_blank (get_or z 0 0) ≡ true → IsGood z None (prefix_len is_blank z)
-blanks_good z h e = prefix_good is_blank z None h e (inl (prefix_all is_blank z))
+blanks_good z h e = prefix_good is_blank z None h e (inl (blanks_same (take (prefix_len is_blank z) z) ∙ prefix_all is_blank z))
 
 word_good : (z : List ℕ) → 0 < length z → is_ascii_digit (get_or z 0 0) ≡ false → is_word_byte (get_or z 0 0) ≡ true → nat_le (prefix_len is_word_byte z) 128 ≡ true
     → IsGood z (Some Word) (prefix_len is_word_byte z)
@@ -150,11 +151,11 @@ number_sound z h e = pick z (Some Number, prefix_len is_ascii_digit z) _ (number
 pair_good : (z : List ℕ) → is_pair (get_or z 0 0) (get_or z 1 0) ≡ true → opens_comment z ≡ false → IsGood z (Some Symbol) 2
 pair_good [] e o = cc
 pair_good (b ∷ []) e o = cc
-pair_good (b ∷ c ∷ z) e o = record { front = b ∷ c ∷ []; rest = z; split = refl; len = refl; some = omega arith; rule = (inl (refl, e), o) }
+pair_good (b ∷ c ∷ z) e o = record { front = b ∷ c ∷ []; rest = z; split = refl; len = refl; some = omega arith; rule = (inl (refl, pair_same b c ∙ e), o) }
 
 single_good : (z : List ℕ) → 0 < length z → is_single (get_or z 0 0) ≡ true → is_pair (get_or z 0 0) (get_or z 1 0) ≡ false → opens_comment z ≡ false → IsGood z (Some Symbol) 1
 single_good [] h e f o = absurd (omega arith)
-single_good (b ∷ z) h e f o = record { front = b ∷ []; rest = z; split = refl; len = refl; some = omega arith; rule = (inr (refl, e, f), o) }
+single_good (b ∷ z) h e f o = record { front = b ∷ []; rest = z; split = refl; len = refl; some = omega arith; rule = (inr (refl, single_same b ∙ e, pair_same b (get_or z 0 0) ∙ f), o) }
 
 symbol_cases : (z : List ℕ) → 0 < length z → opens_comment z ≡ false → (t u : Bool) → is_pair (get_or z 0 0) (get_or z 1 0) ≡ t → is_single (get_or z 0 0) ≡ u
     → IsSound z (cond (cond t 2 (cond u 1 0) == 0) (bad z) (Some Symbol, cond t 2 (cond u 1 0)))

@@ -12,8 +12,8 @@ use Rattle.wat_word.specs.Words.{is_word_byte}
 use Rattle.wat_lex.specs.declared.token.TokenKind.{TokenKind}
 use Rattle.wat_lex.specs.declared.token.TokenKind.TheVariants.{Word, Number, Quoted, Symbol, Bad}
 use Rattle.wat_lex.specs.declared.token.Token.{Token}
-use Rattle.wat_lex.specs.Tokens.{is_blank, is_pair, is_single, tokens_of}
-use Rattle.wat_lex.specs.Rules.{IsSymbol, IsRead, IsSkipped, IsCut, nothing, skips, reads, fails, doubled}
+use Rattle.wat_lex.specs.Tokens.{tokens_of}
+use Rattle.wat_lex.specs.Rules.{is_blank, is_symbol, is_pair, IsSymbol, IsRead, IsSkipped, IsCut, nothing, skips, reads, fails, doubled}
 use Rattle.wat_lex.specs.Parts.{is_within, tokens_within}
 use Rattle.wat_lex.specs.Values.{IsSlice}
 use Rattle.wat_lex.proofs.Cuts.{tokens_of-cut}
@@ -51,7 +51,7 @@ blank_small b e = grind (arith, nat_tests)
 pair_small : (b c : ℕ) → is_pair b c ≡ true → c < 128
 pair_small b c e = grind (arith, nat_tests)
 
-single_small : (b : ℕ) → is_single b ≡ true → b < 128
+single_small : (b : ℕ) → is_symbol b ≡ true → b < 128
 single_small b e = grind (arith, nat_tests)
 
 symbol_end : (s rest : List ℕ) → IsSymbol s rest → EndsInAscii s

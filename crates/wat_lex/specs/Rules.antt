@@ -1,12 +1,31 @@
 -- The rules of tokens, of blanks and of comments: over the bytes of one, and what stands behind them.
-use Rattle.std.specs.Prelude.{◌≡◌, ◌≢◌, ◌<◌, ℕ, ◌+◌, ◌-◌, ◌*◌, ◌^◌, ◌⊎◌, Bool, true, false, ◌&&◌, ◌||◌, if◌then◌else◌, ◌==◌, List, [], ◌∷◌, ◌++◌, length, slice_index}
+use Rattle.std.specs.Prelude.{◌≡◌, ◌≢◌, ◌<◌, ℕ, ◌+◌, ◌-◌, ◌*◌, ◌^◌, ◌⊎◌, Bool, true, false, not, ◌&&◌, ◌||◌, if◌then◌else◌, ◌==◌, List, [], ◌∷◌, ◌++◌, length, slice_index, codes}
 use Rattle.std.specs.Char.{is_ascii_digit}
-use Rattle.std.specs.List.{fold, list_all, flat_map}
+use Rattle.std.specs.List.{fold, list_all, list_any, flat_map}
 use Rattle.wat_word.specs.Words.{is_word_byte, is_word}
 use Rattle.wat_lex.specs.declared.token.TokenKind.{TokenKind}
 use Rattle.wat_lex.specs.declared.token.TokenKind.TheVariants.{Word, Number, Quoted, Symbol, Bad}
 use Rattle.wat_lex.specs.declared.token.Token.{Token}
-use Rattle.wat_lex.specs.Tokens.{is_blank, is_no_line_feed, is_pair, is_single}
+
+-- space, tab, carriage return and line feed
+abbrev pub blanks : List ℕ
+blanks = 32 ∷ 9 ∷ 13 ∷ 10 ∷ []
+
+abbrev pub is_blank : ℕ → Bool
+is_blank b = list_any (λ x. b == x) blanks
+
+abbrev pub symbols : List ℕ
+symbols = codes "(),;.*+-/=<>"
+
+abbrev pub is_symbol : ℕ → Bool
+is_symbol b = list_any (λ x. b == x) symbols
+
+-- the symbols of two characters
+abbrev pub pairs : List (List ℕ)
+pairs = codes "<>" ∷ codes "<=" ∷ codes "!=" ∷ codes ">=" ∷ codes "||" ∷ []
+
+abbrev pub is_pair : ℕ → ℕ → Bool
+is_pair b c = list_any (λ x. b == slice_index x 0 && c == slice_index x 1) pairs
 
 -- no letter, digit or `_` stands behind
 abbrev pub IsWordEnd : List ℕ → Type 0
@@ -20,11 +39,15 @@ decimal = fold (λ n b. 10 * n + (b - 48)) 0
 abbrev pub doubled : ℕ → List ℕ
 doubled b = if b == 39 then 39 ∷ 39 ∷ [] else b ∷ []
 
+-- a quote, the text with each of its quotes twice, and a quote
+abbrev pub in_quotes : List ℕ → List ℕ
+in_quotes text = 39 ∷ (flat_map doubled text ++ 39 ∷ [])
+
 -- two bytes that are a symbol, or one that is, and that is none with the next
 abbrev pub IsSymbol : List ℕ → List ℕ → Type 0
 IsSymbol s rest =
     ((length s ≡ 2) × (is_pair (slice_index s 0) (slice_index s 1) ≡ true))
-    ⊎ ((length s ≡ 1) × (is_single (slice_index s 0) ≡ true) × (is_pair (slice_index s 0) (slice_index rest 0) ≡ false))
+    ⊎ ((length s ≡ 1) × (is_symbol (slice_index s 0) ≡ true) × (is_pair (slice_index s 0) (slice_index rest 0) ≡ false))
 
 -- `--` or `/*` stands at the front
 abbrev pub opens_comment : List ℕ → Bool
@@ -34,7 +57,7 @@ opens_comment z = (slice_index z 0 == 45 && slice_index z 1 == 45) || (slice_ind
 abbrev pub IsRead : TokenKind → List ℕ → List ℕ → Type 0
 IsRead Word s rest = (is_word s ≡ true) × IsWordEnd rest
 IsRead Number s rest = (list_all is_ascii_digit s ≡ true) × (decimal s < 2 ^ 63) × IsWordEnd rest
-IsRead Quoted s rest = (t : List ℕ) × (s ≡ 39 ∷ (flat_map doubled t ++ 39 ∷ [])) × (slice_index rest 0 ≢ 39)
+IsRead Quoted s rest = (t : List ℕ) × (s ≡ in_quotes t) × (slice_index rest 0 ≢ 39)
 IsRead Symbol s rest = IsSymbol s rest × (opens_comment (s ++ rest) ≡ false)
 IsRead Bad s rest = ⊥
 
@@ -42,7 +65,7 @@ IsRead Bad s rest = ⊥
 pub record IsLineComment (s rest : List ℕ) : Type 0 where
   pub first : slice_index s 0 ≡ 45
   pub second : slice_index s 1 ≡ 45
-  pub line : list_all is_no_line_feed s ≡ true
+  pub line : list_all (λ b. not (b == 10)) s ≡ true
   pub ended : (rest ≡ []) ⊎ (slice_index rest 0 ≡ 10)
 
 -- `*/` stands somewhere in the text

@@ -7,12 +7,12 @@ ghost use Rattle.wat_lex.specs.Tokens.{token_at, tokens_from, tokens_of};
 ghost use Rattle.wat_lex.specs.Values.{IsSlice};
 
 use crate::piece::piece;
-use crate::token::{TokenKind, Tokens, push_token};
+use crate::token::{MAX_TEXT, TokenKind, Tokens, push_token};
 use std::alloc::Global;
 use wat_list::{Items, NoMemory};
 
 /// The tokens of a part of a text.
-#[derive(Debug, Drop)]
+#[derive(Drop)]
 pub struct Part {
     pub tokens: Tokens,
     /// Where the next token behind the part begins, or the end of the text where there is none.
@@ -56,7 +56,7 @@ fn next_token(text: &[u8], start: usize) -> usize
 ///
 /// It takes the time of that part alone.
 pub fn tokens_between(alloc: Global, text: &str, from: u32, to: u32) -> Result<Part, NoMemory>
-    requires length { length text.now ≤ 16777216 }
+    requires length { length text.now ≤ MAX_TEXT }
     requires begins { spec.begins_token (tokens_of text.now) from ≡ true }
     requires ordered { from ≤ to }
     ensures tokens { IfOk result (λ part. part.tokens ≡ spec.tokens_within text.now from to) }

@@ -54,7 +54,7 @@ pub fn push_token(
 }
 
 fn read_tokens(alloc: Global, text: &[u8]) -> Result<Tokens, NoMemory>
-    requires { length text.now ≤ 16777216 }
+    requires { length text.now ≤ MAX_TEXT }
     ensures { IfOk result (λ ts. ts ≡ spec.tokens_of text.now) }
 {
     let mut found = Items::new(alloc);
@@ -69,7 +69,7 @@ fn read_tokens(alloc: Global, text: &[u8]) -> Result<Tokens, NoMemory>
 
 /// The tokens of the text, of at most 16,777,216 bytes.
 pub fn tokens(alloc: Global, text: &str) -> Result<Tokens, NoMemory>
-    requires { length text.now ≤ 16777216 }
+    requires { length text.now ≤ MAX_TEXT }
     ensures tokens { IfOk result (λ ts. ts ≡ spec.tokens_of text.now) }
     // The text is cut into blanks, comments and these tokens, each by its rule.
     ensures cut { IfOk result (λ ts. IsCut 0 text.now ts) }

@@ -1,9 +1,7 @@
 //! What a token stands for.
 
-ghost use Rattle.std.specs.Prelude.{◌≡◌, [], ◌∷◌, ◌++◌, ℕ, pos, List, false, string_bytes, IfOk};
-ghost use Rattle.std.specs.List.{flat_map};
+ghost use Rattle.std.specs.Prelude.{◌≡◌, pos, false, string_bytes, IfOk};
 ghost use Rattle.std.specs.Option.{option_map};
-ghost use Rattle.wat_lex.specs.Rules.{doubled};
 ghost use Rattle.wat_lex.specs.Values as spec;
 
 use crate::piece::{NUMBER_LIMIT, value_of};
@@ -74,8 +72,3 @@ pub fn string_text(alloc: Global, token: &str) -> Result<String, NoMemory>
     let bytes = string_bytes_of(alloc, token.as_bytes())?;
     Ok(String::from_utf8(bytes).unwrap())
 }
-
-/// A text that is written as a string is read as itself.
-pub fn strings_are_read_back()
-    ensures same { (text : List ℕ) → spec.string_text (39 ∷ (flat_map doubled text ++ 39 ∷ [])) ≡ text }
-{}

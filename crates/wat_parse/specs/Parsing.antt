@@ -2,8 +2,9 @@
 use Rattle.std.specs.Prelude.{◌≡◌, ℕ, List, Result, Ok, Err}
 use Rattle.wat_ast.specs.declared.statement.Statement.{Statement}
 use Rattle.wat_lex.specs.declared.token.Token.{Token}
+use Rattle.wat_lex.specs.Parts.{tokens_within}
 use Rattle.wat_syntax.specs.Lexeme.{Lexeme, lexemes_of}
-use Rattle.wat_syntax.specs.Parsed.{tokens_within, parsed}
+use Rattle.wat_syntax.specs.Parsed.{parsed}
 use Rattle.wat_parse.specs.declared.parse.ParseRefusal.{ParseRefusal}
 use Rattle.wat_parse.specs.declared.parse.ParseRefusal.TheVariants.{Syntax, Memory}
 use Rattle.wat_parse.specs.declared.script.Span.{Span}

@@ -2,11 +2,9 @@
 #![tactic(auto)]
 
 mod parse;
-#[cfg(test)]
-mod parse_tests;
+mod reading;
 mod script;
-#[cfg(test)]
-mod tests;
 
 pub use parse::{ParseRefusal, statement};
+pub use reading::whole;
 pub use script::{Span, Spans, statements};

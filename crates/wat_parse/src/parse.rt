@@ -7,13 +7,13 @@ ghost use Rattle.wat_parse.specs.Statements.{statements_of, place_behind};
 ghost use Rattle.wat_syntax.specs.Parsed.{GoesWrong, parsed_tokens, place_of};
 ghost use Rattle.wat_syntax.specs.Sql.{IsStatement};
 
+use crate::reading::whole;
 use crate::script::Span;
 use std::alloc::Global;
 use wat_ast::Statement;
 use wat_cursor::{Cursor, Fault};
-use wat_lex::{Token, tokens_between};
+use wat_lex::{MAX_TEXT, Token, tokens_between};
 use wat_list::NoMemory;
-use wat_statements::whole;
 
 /// Why a part of a script is no statement.
 #[derive(Clone, Copy, Debug, PartialEq, Eq)]
@@ -67,7 +67,7 @@ fn parse_tokens(
 }
 
 fn parse_span(alloc: Global, text: &str, span: Span) -> Result<Statement, ParseRefusal>
-    requires length { length text.now ≤ 16777216 }
+    requires length { length text.now ≤ MAX_TEXT }
     requires span { Contains (statements_of text.now) span }
     ensures { Gives (parsed_at text.now span) result }
 {
@@ -79,7 +79,7 @@ fn parse_span(alloc: Global, text: &str, span: Span) -> Result<Statement, ParseR
 ///
 /// It takes the time of that statement alone.
 pub fn statement(alloc: Global, text: &str, span: Span) -> Result<Statement, ParseRefusal>
-    requires length { length text.now ≤ 16777216 }
+    requires length { length text.now ≤ MAX_TEXT }
     requires span { Contains (statements_of text.now) span }
     // What is read is in the grammar.
     ensures found { IfOk result (λ tree. IsStatement (lexemes_at text.now span) tree) }

@@ -3,7 +3,7 @@ ghost use Rattle.std.specs.Option.{option_to_list};
 ghost use Rattle.wat_parse.specs.Statements as spec;
 
 use std::alloc::Global;
-use wat_lex::{Token, TokenKind, tokens};
+use wat_lex::{MAX_TEXT, Token, TokenKind, tokens};
 use wat_list::{Items, NoMemory};
 
 /// The bytes from `from` up to `to`, counted from the start of the script.
@@ -49,7 +49,7 @@ fn push_span(spans: &mut Spans, group: Option<Span>) -> Result<(), NoMemory>
 /// The statements of the script, of at most 16,777,216 bytes: the groups of tokens between
 /// semicolons that are not empty, each from its first token up to the end of its last.
 pub fn statements(alloc: Global, text: &str) -> Result<Spans, NoMemory>
-    requires { length text.now ≤ 16777216 }
+    requires { length text.now ≤ MAX_TEXT }
     ensures { IfOk result (λ spans. spans ≡ spec.statements_of text.now) }
 {
     let bytes = text.as_bytes();

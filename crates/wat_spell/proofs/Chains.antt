@@ -7,7 +7,8 @@ use Rattle.wat_ast.specs.declared.expression.Expr.{Expr, size-Expr}
 use Rattle.wat_ast.specs.declared.expression.Expr.TheVariants as e
 use Rattle.wat_ast.specs.declared.expression.Expr.TheViews.{sized-Binary}
 use Rattle.wat_spell.specs.declared.expression.Operation.{Operation}
-use Rattle.wat_spell.specs.Tokens.{Token, Written, put, puts}
+use Rattle.wat_spell.specs.Growing.{Growing, put, puts}
+use Rattle.wat_spell.specs.Tokens.{Token}
 use Rattle.wat_spell.specs.Spelling.{Spelling, spelled, placed, enclosed, expression, operator_token, operator_rank, left_rank, right_rank}
 use Rattle.wat_spell.proofs.Spelled.{spelled_binary}
 use Rattle.wat_spell.proofs.Writes.{puts_append}
@@ -87,10 +88,10 @@ down_below ops more x first op l r low bound f m q a b d =
     let s : size-Expr x.right.now ≡ size-Expr r = ap size-Expr q in
     omega (arith, sizes first op l r f)
 
-pub goes_up : (ops rest : List Operation) (x : Operation) (w w' w'' : Written) (whole : Written) → ops ≡ rest ++ x ∷ [] → w' ≡ put w (operator_token x.op)
+pub goes_up : (ops rest : List Operation) (x : Operation) (w w' w'' : Growing) (whole : Growing) → ops ≡ rest ++ x ∷ [] → w' ≡ put w (operator_token x.op)
     → w'' ≡ puts w' (placed (right_rank x.op) (spelled x.right.now)).tokens → puts w (operations ops) ≡ whole → puts w'' (operations rest) ≡ whole
 goes_up ops rest x w w' w'' whole m a b before =
-    ap (λ (v : Written). puts v (operations rest)) (b ∙ ap (λ (v : Written). puts v (placed (right_rank x.op) (spelled x.right.now)).tokens) a)
+    ap (λ (v : Growing). puts v (operations rest)) (b ∙ ap (λ (v : Growing). puts v (placed (right_rank x.op) (spelled x.right.now)).tokens) a)
     ∙ sym (puts_append w (operation x) (operations rest))
     ∙ ap (puts w) (sym (ap operations m ∙ operations_push rest x))
     ∙ before

@@ -11,7 +11,7 @@ use Rattle.wat_ast.specs.declared.expression.AggregateKind.{AggregateKind}
 use Rattle.wat_ast.specs.declared.expression.Expr.{Expr, roll-Expr, map-Expr, fold-roll-Expr}
 use Rattle.wat_ast.specs.declared.expression.Expr.TheVariants as e
 use Rattle.wat_ast.specs.declared.expression.Expr.TheOpen.{Expr-F}
-use Rattle.wat_spell.specs.Spelling.{Spelling, spelled, spelled_at, aggregate_of, comma, listed, expression, placed, tokens_if, argument, argument_tokens, aggregate_word}
+use Rattle.wat_spell.specs.Spelling.{Spelling, spelled, spelled_at, aggregate_of, comma, with_commas, expression, placed, tokens_if, argument, argument_tokens, aggregate_word}
 
 of_layer : (layer : Expr-F Expr) (x : Expr) → roll-Expr layer ≡ x → spelled x ≡ spelled_at (map-Expr Expr Spelling spelled layer)
 unfolding spelled
@@ -52,12 +52,12 @@ more_listed : (xs : List Expr) → flat_map (λ y. comma ∷ y.tokens) (map spel
 more_listed [] = refl
 more_listed (x ∷ xs) = ap (λ (ts : List Token). (comma ∷ expression x) ++ ts) (more_listed xs)
 
-pub listed_spelled : (xs : List Expr) → listed (λ y. y.tokens) (map spelled xs) ≡ listed expression xs
+pub listed_spelled : (xs : List Expr) → with_commas (λ y. y.tokens) (map spelled xs) ≡ with_commas expression xs
 listed_spelled [] = refl
 listed_spelled (x ∷ xs) = ap (λ (ts : List Token). expression x ++ ts) (more_listed xs)
 
 pub expression_in_list : (a : Expr) (items : List Expr) (negated : Bool) → expression (e.InList a items negated)
-    ≡ (placed 4 (spelled a)).tokens ++ (tokens_if negated (word w.Not ∷ []) ++ word w.In ∷ symbol s.Open ∷ (listed expression items ++ symbol s.Close ∷ []))
+    ≡ (placed 4 (spelled a)).tokens ++ (tokens_if negated (word w.Not ∷ []) ++ word w.In ∷ symbol s.Open ∷ (with_commas expression items ++ symbol s.Close ∷ []))
 expression_in_list a items negated =
     ap (λ (x : Spelling). x.tokens) (spelled_in_list a items negated)
     ∙ ap (λ (ts : List Token). (placed 4 (spelled a)).tokens ++ (tokens_if negated (word w.Not ∷ []) ++ word w.In ∷ symbol s.Open ∷ (ts ++ symbol s.Close ∷ []))) (listed_spelled items)

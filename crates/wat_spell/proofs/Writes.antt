@@ -1,12 +1,13 @@
 -- Texts that grow by tokens.
 use Rattle.std.proofs.Common.{◌≡◌, ℕ, ◌||◌, List, [], ◌∷◌, ◌++◌, refl, sym, ◌∙◌, ap, append_assoc}
-use Rattle.wat_spell.specs.Tokens.{Token, Written, gap, token_text, is_tight_behind, is_tight_before, put, puts, empty, written}
+use Rattle.wat_spell.specs.Growing.{Growing, put, puts, empty}
+use Rattle.wat_spell.specs.Tokens.{Token, gap, token_text, is_tight_behind, is_tight_before, written}
 
-pub puts_append : (w : Written) (ts us : List Token) → puts w (ts ++ us) ≡ puts (puts w ts) us
+pub puts_append : (w : Growing) (ts us : List Token) → puts w (ts ++ us) ≡ puts (puts w ts) us
 puts_append w [] us = refl
 puts_append w (t ∷ ts) us = puts_append (put w t) ts us
 
-behind : (w : Written) (t : Token) (ts : List Token) → (puts (put w t) ts).text ≡ w.text ++ gap (w.is_tight || is_tight_before t) ++ written (t ∷ ts)
+behind : (w : Growing) (t : Token) (ts : List Token) → (puts (put w t) ts).text ≡ w.text ++ gap (w.is_tight || is_tight_before t) ++ written (t ∷ ts)
 behind w t [] = refl
 behind w t (u ∷ ts) =
     let here = gap (w.is_tight || is_tight_before t) in

@@ -1,3 +1,4 @@
+pub mod Growing
 pub mod Spelling
 pub mod Statements
 pub mod Tokens

@@ -14,7 +14,7 @@ use Rattle.wat_ast.specs.declared.expression.AggregateKind.TheVariants as aggreg
 use Rattle.wat_ast.specs.declared.expression.Expr.{Expr, fold-Expr}
 use Rattle.wat_ast.specs.declared.expression.Expr.TheOpen.{Expr-F}
 use Rattle.wat_spell.specs.declared.symbol.Symbol.TheVariants as s
-use Rattle.wat_spell.specs.Tokens.{Token, word, name, number, quoted, symbol}
+use Rattle.wat_spell.specs.Tokens.{Token, word, name, number, negative, quoted, symbol}
 
 -- What spells an expression: how tightly its outermost operator binds, its tokens, and the levels of nesting that they open.
 -- The ranks are 0 for OR, 1 for AND, 2 for NOT, 3 for a test, 4 for a sum, 5 for a term, 6 for a factor and 7 for what
@@ -36,15 +36,16 @@ placed place x = if nat_lt x.rank place then enclosed x else x
 abbrev pub atom : List Token → Spelling
 atom tokens = record { rank = 7; tokens = tokens; levels = 0 }
 
--- a number, where a minus stands before its digits if it is below zero
-abbrev pub integer : ℤ → List Token
-integer (pos n) = number n ∷ []
-integer (negsuc n) = symbol s.Minus ∷ number (suc n) ∷ []
+-- a number, which is one token, below zero too
+abbrev pub integer : ℤ → Token
+integer (pos n) = number n
+integer (negsuc n) = negative (suc n)
 
+-- A number below zero is read as a minus before a number, so it binds as a minus does, and opens a level.
 abbrev pub literal : Value → Spelling
 literal value.Null = atom (word w.Null ∷ [])
-literal (value.Int (pos n)) = atom (integer (pos n))
-literal (value.Int (negsuc n)) = record { rank = 6; tokens = integer (negsuc n); levels = 1 }
+literal (value.Int (pos n)) = atom (integer (pos n) ∷ [])
+literal (value.Int (negsuc n)) = record { rank = 6; tokens = integer (negsuc n) ∷ []; levels = 1 }
 literal (value.Text t) = atom (quoted t ∷ [])
 
 abbrev pub column : Option (List ℕ) → List ℕ → List Token
@@ -115,13 +116,13 @@ abbrev pub comma : Token
 comma = symbol s.Comma
 
 -- one after the other, with commas between
-abbrev pub listed : {X : Type 0} → (X → List Token) → List X → List Token
-listed f = join_by f (comma ∷ [])
+abbrev pub with_commas : {X : Type 0} → (X → List Token) → List X → List Token
+with_commas f = join_by f (comma ∷ [])
 
 -- GROUP BY or ORDER BY, with what stands behind it, and nothing where there is nothing
 abbrev pub by : {X : Type 0} → Keyword → (X → List Token) → List X → List Token
 by keyword f [] = []
-by keyword f (x ∷ xs) = word keyword ∷ word w.By ∷ listed f (x ∷ xs)
+by keyword f (x ∷ xs) = word keyword ∷ word w.By ∷ with_commas f (x ∷ xs)
 
 -- the most levels that one of these opens
 abbrev pub deepest : List Spelling → ℕ
@@ -158,7 +159,7 @@ in_list_of a items negated =
     let arg = placed 4 a in
     record {
       rank = 3;
-      tokens = arg.tokens ++ (tokens_if negated (word w.Not ∷ []) ++ word w.In ∷ symbol s.Open ∷ (listed (λ x. x.tokens) items ++ symbol s.Close ∷ []));
+      tokens = arg.tokens ++ (tokens_if negated (word w.Not ∷ []) ++ word w.In ∷ symbol s.Open ∷ (with_commas (λ x. x.tokens) items ++ symbol s.Close ∷ []));
       levels = max arg.levels (deepest items + 1);
     }
 

@@ -21,11 +21,11 @@ use Rattle.wat_ast.specs.declared.statement.Statement.{Statement}
 use Rattle.wat_ast.specs.declared.statement.Statement.TheVariants as statement
 use Rattle.wat_spell.specs.declared.symbol.Symbol.TheVariants as s
 use Rattle.wat_spell.specs.Tokens.{Token, word, name, number, symbol, written}
-use Rattle.wat_spell.specs.Spelling.{integer, tokens_if, listed, by, expression}
+use Rattle.wat_spell.specs.Spelling.{integer, tokens_if, with_commas, by, expression}
 
 -- in parentheses, with commas between
 abbrev pub in_parentheses : {X : Type 0} → (X → List Token) → List X → List Token
-in_parentheses f xs = symbol s.Open ∷ (listed f xs ++ symbol s.Close ∷ [])
+in_parentheses f xs = symbol s.Open ∷ (with_commas f xs ++ symbol s.Close ∷ [])
 
 abbrev pub name_tokens : List ℕ → List Token
 name_tokens n = name n ∷ []
@@ -34,7 +34,7 @@ name_tokens n = name n ∷ []
 
 abbrev pub select_items : SelectItems → List Token
 select_items items.Star = symbol s.Star ∷ []
-select_items (items.List xs) = listed expression xs
+select_items (items.List xs) = with_commas expression xs
 
 abbrev pub alias : Option (List ℕ) → List Token
 alias None = []
@@ -45,7 +45,7 @@ source_tokens x = name x.table ∷ alias x.alias
 
 abbrev pub order_by : OrderBy → List Token
 order_by (Column x) = expression x
-order_by (Position n) = integer n
+order_by (Position n) = integer n ∷ []
 
 abbrev pub order_item : OrderItem → List Token
 order_item x = order_by x.by ++ tokens_if x.descending (word w.Desc ∷ [])
@@ -57,14 +57,14 @@ condition keyword (Some x) = word keyword ∷ expression x
 
 abbrev pub query : Query → List Token
 query q =
-    word w.Select ∷ (tokens_if q.distinct (word w.Distinct ∷ []) ++ (select_items q.items ++ word w.From ∷ (listed source_tokens q.sources
+    word w.Select ∷ (tokens_if q.distinct (word w.Distinct ∷ []) ++ (select_items q.items ++ word w.From ∷ (with_commas source_tokens q.sources
     ++ (condition w.Where q.filter ++ (by w.Group expression q.group ++ (condition w.Having q.having ++ by w.Order order_item q.order))))))
 
 -- ---- other statements
 
 -- a type with its length right behind its word
 abbrev pub sized : Keyword → ℤ → List Token
-sized keyword size = word keyword ∷ symbol s.OpenTight ∷ (integer size ++ symbol s.Close ∷ [])
+sized keyword size = word keyword ∷ symbol s.OpenTight ∷ integer size ∷ symbol s.Close ∷ []
 
 abbrev pub type_tokens : TypeName → List Token
 type_tokens type_name.Integer = word w.Integer ∷ []
@@ -103,7 +103,7 @@ abbrev pub insert : List ℕ → Option (List (List ℕ)) → InsertSource → L
 insert table columns rows = word w.Insert ∷ word w.Into ∷ name table ∷ (insert_columns columns ++ insert_source rows)
 
 abbrev pub update : List ℕ → List SetItem → Option Expr → List Token
-update table sets filter = word w.Update ∷ name table ∷ word w.Set ∷ (listed set_item sets ++ condition w.Where filter)
+update table sets filter = word w.Update ∷ name table ∷ word w.Set ∷ (with_commas set_item sets ++ condition w.Where filter)
 
 abbrev pub delete : List ℕ → Option Expr → List Token
 delete table filter = word w.Delete ∷ word w.From ∷ name table ∷ condition w.Where filter

@@ -1,8 +1,8 @@
 -- The tokens of a spelling, and how they are written.
-use Rattle.std.specs.Prelude.{ℕ, Bool, true, false, ◌||◌, ◌==◌, if◌then◌else◌, List, [], ◌∷◌, ◌++◌, codes, decimal}
-use Rattle.std.specs.List.{flat_map, fold}
+use Rattle.std.specs.Prelude.{ℕ, Bool, true, false, ◌||◌, if◌then◌else◌, List, [], ◌∷◌, ◌++◌, codes, decimal}
 use Rattle.wat_word.specs.Words.{spelling}
 use Rattle.wat_word.specs.declared.keyword.Keyword.{Keyword}
+use Rattle.wat_lex.specs.Rules.{in_quotes}
 use Rattle.wat_spell.specs.declared.symbol.Symbol.{Symbol}
 use Rattle.wat_spell.specs.declared.symbol.Symbol.TheVariants as s
 
@@ -11,6 +11,8 @@ pub data Token : Type 0 where
   word : Keyword → Token
   name : List ℕ → Token
   number : ℕ → Token
+  -- a number below zero: a minus and its digits, with nothing between
+  negative : ℕ → Token
   -- a text, which is written in quotes
   quoted : List ℕ → Token
   symbol : Symbol → Token
@@ -33,16 +35,13 @@ symbol_text s.AtMost = codes "<="
 symbol_text s.Greater = codes ">"
 symbol_text s.AtLeast = codes ">="
 
--- a quote twice, and any other byte once
-abbrev pub doubled : ℕ → List ℕ
-doubled b = if b == 39 then 39 ∷ 39 ∷ [] else b ∷ []
-
 -- reserved words in capitals, and texts in quotes
 abbrev pub token_text : Token → List ℕ
 token_text (word w) = spelling w
 token_text (name n) = n
 token_text (number n) = decimal n
-token_text (quoted t) = codes "'" ++ flat_map doubled t ++ codes "'"
+token_text (negative n) = codes "-" ++ decimal n
+token_text (quoted t) = in_quotes t
 token_text (symbol x) = symbol_text x
 
 -- whether no space stands before the symbol
@@ -87,6 +86,7 @@ abbrev pub is_tight_before : Token → Bool
 is_tight_before (word w) = false
 is_tight_before (name n) = false
 is_tight_before (number n) = false
+is_tight_before (negative n) = false
 is_tight_before (quoted t) = false
 is_tight_before (symbol x) = is_tight_left x
 
@@ -94,6 +94,7 @@ abbrev pub is_tight_behind : Token → Bool
 is_tight_behind (word w) = false
 is_tight_behind (name n) = false
 is_tight_behind (number n) = false
+is_tight_behind (negative n) = false
 is_tight_behind (quoted t) = false
 is_tight_behind (symbol x) = is_tight_right x
 
@@ -106,19 +107,3 @@ abbrev pub written : List Token → List ℕ
 written [] = []
 written (t ∷ []) = token_text t
 written (t ∷ u ∷ more) = token_text t ++ gap (is_tight_behind t || is_tight_before u) ++ written (u ∷ more)
-
--- A text that grows by tokens, and whether no space stands behind what is there.
-pub record Written : Type 0 where
-  pub text : List ℕ
-  pub is_tight : Bool
-
-abbrev pub empty : Written
-empty = record { text = []; is_tight = true }
-
--- one token more
-abbrev pub put : Written → Token → Written
-put w t = record { text = w.text ++ gap (w.is_tight || is_tight_before t) ++ token_text t; is_tight = is_tight_behind t }
-
--- these tokens more
-abbrev pub puts : Written → List Token → Written
-puts = fold put

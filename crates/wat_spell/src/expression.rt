@@ -1,8 +1,8 @@
 ghost use Rattle.std.specs.Prelude.{◌≡◌, ◌∷◌, ◌≤◌, OnOk};
 ghost use Rattle.std.specs.List.{flat_map};
 ghost use Rattle.wat_ast.specs.declared.expression.Expr.TheVariants as e;
+ghost use Rattle.wat_spell.specs.Growing.{put, puts};
 ghost use Rattle.wat_spell.specs.Spelling as spec;
-ghost use Rattle.wat_spell.specs.Tokens.{put, puts};
 
 use crate::list::Part;
 use crate::symbol::Symbol;
@@ -230,7 +230,7 @@ fn more_expressions(writing: &mut Writing, exprs: &[Expr]) -> Result<(), NoMemor
 #[cycle(spelling)]
 #[tactic(auto, using(crate::proofs::Writes::puts_append))]
 fn expressions(writing: &mut Writing, exprs: &[Expr]) -> Result<(), NoMemory>
-    ensures { OnOk result (writing.new ≡ puts writing.old (spec.listed spec.expression exprs.now)) }
+    ensures { OnOk result (writing.new ≡ puts writing.old (spec.with_commas spec.expression exprs.now)) }
 {
     match exprs {
         [] => Ok(()),

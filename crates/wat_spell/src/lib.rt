@@ -9,6 +9,3 @@ mod symbol;
 mod writing;
 
 pub use spelling::spell;
-
-#[cfg(test)]
-mod tests;

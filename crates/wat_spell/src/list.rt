@@ -1,9 +1,9 @@
 ghost use Rattle.std.specs.Prelude.{◌≡◌, ◌∷◌, OnOk};
 ghost use Rattle.std.specs.List.{flat_map};
+ghost use Rattle.wat_spell.specs.Growing.{puts};
 ghost use Rattle.wat_spell.specs.Spelling as spelling;
-ghost use Rattle.wat_spell.specs.Spelling.{comma, listed};
+ghost use Rattle.wat_spell.specs.Spelling.{comma, with_commas};
 ghost use Rattle.wat_spell.specs.Statements.{in_parentheses};
-ghost use Rattle.wat_spell.specs.Tokens.{puts};
 
 use crate::symbol::Symbol;
 use crate::writing::Writing;
@@ -13,7 +13,8 @@ use wat_word::Keyword;
 /// What stands in a list of a statement.
 pub trait Part {
     ghost use Rattle.std.specs.Prelude.{◌≡◌, List, OnOk};
-    ghost use Rattle.wat_spell.specs.Tokens.{Token, puts};
+    ghost use Rattle.wat_spell.specs.Growing.{puts};
+    ghost use Rattle.wat_spell.specs.Tokens.{Token};
 
     ghost tokens: { Self → List Token };
 
@@ -35,7 +36,7 @@ fn more_parts<P: Part>(writing: &mut Writing, parts: &[P]) -> Result<(), NoMemor
 /// Writes the parts with commas between.
 #[tactic(auto, using(crate::proofs::Writes::puts_append))]
 pub fn list<P: Part>(writing: &mut Writing, parts: &[P]) -> Result<(), NoMemory>
-    ensures { OnOk result (writing.new ≡ puts writing.old (listed P.tokens parts.now)) }
+    ensures { OnOk result (writing.new ≡ puts writing.old (with_commas P.tokens parts.now)) }
 {
     match parts {
         [] => Ok(()),

@@ -12,8 +12,10 @@ use wat_list::NoMemory;
 /// `,` and the `(` of a type or of an aggregate, and none around `.`. Of the optional words INTO and FROM are written,
 /// and no other; INTEGER stands for INT; and parentheses stand exactly where the grammar needs them.
 ///
-/// A tree that no text gives is spelled too: a number below zero with a minus, the place of a column as its two numbers with
-/// a dot between, and an empty list as nothing. A refusal leaves `out` as it was.
+/// A tree that no text gives is spelled too: a number below zero as one token, with its minus right before its digits, the place of
+/// a column as its two numbers with a dot between, and an empty list as nothing. A refusal leaves `out` as it was.
+///
+/// What the spelling of a number below zero is read as stands in `wat_spell_laws`.
 #[tactic(auto, using(crate::proofs::Writes::puts_written))]
 pub fn spell(statement: &Statement, out: &mut Vec<u8>) -> Result<(), NoMemory>
     ensures ok { OnOk result (out.new.items ≡ out.old.items ++ spelled_text statement.now) }

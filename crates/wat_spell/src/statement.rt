@@ -1,6 +1,6 @@
 ghost use Rattle.std.specs.Prelude.{◌≡◌, OnOk};
+ghost use Rattle.wat_spell.specs.Growing.{puts};
 ghost use Rattle.wat_spell.specs.Statements as spec;
-ghost use Rattle.wat_spell.specs.Tokens.{puts};
 
 use crate::list::{Part, by, in_parentheses, list};
 use crate::symbol::Symbol;

@@ -2,7 +2,7 @@ ghost use Rattle.std.specs.Prelude.{◌≡◌};
 ghost use Rattle.wat_spell.specs.Tokens as spec;
 
 /// A symbol of a spelling.
-#[derive(Clone, Copy, Debug, PartialEq, Eq)]
+#[derive(Clone, Copy)]
 pub enum Symbol {
     Open,
     /// `(` right behind a word, of a type or of an aggregate.

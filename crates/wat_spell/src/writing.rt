@@ -1,5 +1,7 @@
 ghost use Rattle.std.specs.Prelude.{◌≡◌, ◌||◌, [], ◌∷◌, ◌++◌, false, OnOk};
 ghost use Rattle.std.specs.List.{flat_map};
+ghost use Rattle.wat_lex.specs.Rules.{doubled};
+ghost use Rattle.wat_spell.specs.Growing.{empty, put, puts};
 ghost use Rattle.wat_spell.specs.Spelling.{integer, tokens_if};
 ghost use Rattle.wat_spell.specs.Tokens as spec;
 
@@ -22,15 +24,15 @@ pub struct Writing {
 }
 
 impl Model for Writing {
-    ghost use Rattle.wat_spell.specs.Tokens.{Written};
+    ghost use Rattle.wat_spell.specs.Growing.{Growing};
 
-    ghost Value = { Written };
+    ghost Value = { Growing };
 
     ghost view = { λ w. record { text = w.bytes.items; is_tight = w.is_tight } };
 }
 
 fn push_doubled(out: &mut Vec<u8>, text: &[u8]) -> Result<(), NoMemory>
-    ensures { OnOk result (out.new.items ≡ out.old.items ++ flat_map spec.doubled text.now) }
+    ensures { OnOk result (out.new.items ≡ out.old.items ++ flat_map doubled text.now) }
 {
     for byte in text {
         if *byte == b'\'' {
@@ -44,7 +46,7 @@ fn push_doubled(out: &mut Vec<u8>, text: &[u8]) -> Result<(), NoMemory>
 
 impl Writing {
     pub fn new(alloc: Global) -> Self
-        ensures { result ≡ spec.empty }
+        ensures { result ≡ empty }
     {
         Writing {
             bytes: Vec::new(alloc),
@@ -81,14 +83,14 @@ impl Writing {
     }
 
     pub fn word(&mut self, keyword: Keyword) -> Result<(), NoMemory>
-        ensures { OnOk result (self.new ≡ spec.put self.old (spec.word keyword)) }
+        ensures { OnOk result (self.new ≡ put self.old (spec.word keyword)) }
     {
         self.space(false)?;
         self.text(keyword.spelling(), false)
     }
 
     pub fn word_if(&mut self, condition: bool, keyword: Keyword) -> Result<(), NoMemory>
-        ensures { OnOk result (self.new ≡ spec.puts self.old (tokens_if condition (spec.word keyword ∷ []))) }
+        ensures { OnOk result (self.new ≡ puts self.old (tokens_if condition (spec.word keyword ∷ []))) }
     {
         if condition {
             self.word(keyword)
@@ -98,32 +100,42 @@ impl Writing {
     }
 
     pub fn name(&mut self, name: &Name) -> Result<(), NoMemory>
-        ensures { OnOk result (self.new ≡ spec.put self.old (spec.name name.now)) }
+        ensures { OnOk result (self.new ≡ put self.old (spec.name name.now)) }
     {
         self.space(false)?;
         self.text(name.as_str(), false)
     }
 
     pub fn number(&mut self, number: u64) -> Result<(), NoMemory>
-        ensures { OnOk result (self.new ≡ spec.put self.old (spec.number number)) }
+        ensures { OnOk result (self.new ≡ put self.old (spec.number number)) }
     {
         let mut buffer = Buffer::new();
         self.space(false)?;
         self.text(buffer.format(number), false)
     }
 
-    /// A minus before the digits, if the number is below zero.
+    /// A minus and the digits, with nothing between.
+    fn negative(&mut self, digits: u64) -> Result<(), NoMemory>
+        ensures { OnOk result (self.new ≡ put self.old (spec.negative digits)) }
+    {
+        let mut buffer = Buffer::new();
+        self.space(false)?;
+        self.bytes.extend_from_slice(b"-")?;
+        self.text(buffer.format(digits), false)
+    }
+
+    /// The digits, behind a minus if the number is below zero.
     pub fn integer(&mut self, number: i64) -> Result<(), NoMemory>
-        ensures { OnOk result (self.new ≡ spec.puts self.old (integer number)) }
+        ensures { OnOk result (self.new ≡ put self.old (integer number)) }
     {
         if number < 0 {
-            self.symbol(Symbol::Minus)?;
+            return self.negative(number.unsigned_abs());
         }
         self.number(number.unsigned_abs())
     }
 
     pub fn quoted(&mut self, text: &Text) -> Result<(), NoMemory>
-        ensures { OnOk result (self.new ≡ spec.put self.old (spec.quoted text.now)) }
+        ensures { OnOk result (self.new ≡ put self.old (spec.quoted text.now)) }
     {
         self.space(false)?;
         self.bytes.extend_from_slice(b"'")?;
@@ -132,7 +144,7 @@ impl Writing {
     }
 
     pub fn symbol(&mut self, symbol: Symbol) -> Result<(), NoMemory>
-        ensures { OnOk result (self.new ≡ spec.put self.old (spec.symbol symbol)) }
+        ensures { OnOk result (self.new ≡ put self.old (spec.symbol symbol)) }
     {
         self.space(symbol.is_tight_left())?;
         self.text(symbol.as_str(), symbol.is_tight_right())

@@ -23,8 +23,8 @@ use Rattle.wat_syntax.specs.Sql.{Sql, sql, Change, list, after, some_name, among
 use Rattle.wat_spell.specs.declared.symbol.Symbol.{Symbol}
 use Rattle.wat_spell.specs.declared.symbol.Symbol.TheVariants as s
 use Rattle.wat_spell.specs.Tokens.{Token, word, name, number, quoted, symbol}
-use Rattle.wat_spell.specs.Spelling.{Spelling, spelled, spelled_at, placed, enclosed, comma, listed, deepest, tokens_if, operator_rank, left_rank, right_rank, operator_token}
-use Rattle.wat_spell_laws.specs.Derived.{IsSpelled, sign, token_lexeme, token_lexemes, phrase_of, fits, fits_at, fits_value, fits_table, fits_aggregate, all_of}
+use Rattle.wat_spell.specs.Spelling.{Spelling, spelled, spelled_at, placed, enclosed, comma, with_commas, deepest, tokens_if, operator_rank, left_rank, right_rank, operator_token}
+use Rattle.wat_spell_laws.specs.Derived.{IsSpelled, sign, kind_of_symbol, name_lexeme, number_lexeme, quoted_lexeme, lexemes_of_token, token_lexemes, phrase_of, is_parsable, is_parsable_at, is_parsable_value, is_parsable_table, is_parsable_aggregate, all_of}
 use Rattle.wat_spell_laws.proofs.Lifts.{lexemes_append, and_one, down_to, suc_not_zero, in_parentheses}
 
 -- in its place too
@@ -54,17 +54,17 @@ compared_by d t ws r o ho h = inl ((o, r), (t ∷ [], ws, refl, ho, h), refl)
 
 -- a chain with one more operation
 chained : (d : ℕ) (p : Sql Expr) (op : Sql BinaryOp) (q : Sql Expr) (us : List Token) (t : Token) (ws : List Token) (l r : Expr) (o : BinaryOp)
-    → DerivesWithin sql d (Rattle.wat_syntax.specs.Sql.chain op q) (token_lexemes us) l → DerivesWithin sql d op (token_lexeme t ∷ []) o → DerivesWithin sql d q (token_lexemes ws) r
+    → DerivesWithin sql d (Rattle.wat_syntax.specs.Sql.chain op q) (token_lexemes us) l → DerivesWithin sql d op (lexemes_of_token t) o → DerivesWithin sql d q (token_lexemes ws) r
     → DerivesWithin sql d (Rattle.wat_syntax.specs.Sql.chain op q) (token_lexemes (us ++ t ∷ ws)) (e.Binary o l r)
 chained d p op q us t ws l r o h ho hr =
     subst (λ (z : List Lexeme). DerivesWithin sql d (Rattle.wat_syntax.specs.Sql.chain op q) z (e.Binary o l r)) (sym (lexemes_append us (t ∷ ws)))
-    (and_one d op q (token_lexemes us) (token_lexeme t ∷ []) (token_lexemes ws) l r o h ho hr)
+    (and_one d op q (token_lexemes us) (lexemes_of_token t) (token_lexemes ws) l r o h ho hr)
 
-comparison_is : (d : ℕ) (y z : Spelling) (l r : Expr) (x : Symbol) (o : BinaryOp) → DerivesWithin sql d comparison (token_lexeme (symbol x) ∷ []) o → IsSpelled y l → IsSpelled z r
+comparison_is : (d : ℕ) (y z : Spelling) (l r : Expr) (x : Symbol) (o : BinaryOp) → DerivesWithin sql d comparison (sign (kind_of_symbol x) ∷ []) o → IsSpelled y l → IsSpelled z r
     → max (placed 4 y).levels (placed 4 z).levels ≤ d → DerivesWithin sql d predicate (token_lexemes ((placed 4 y).tokens ++ symbol x ∷ (placed 4 z).tokens)) (e.Binary o l r)
 comparison_is d y z l r x o ho hl hr b =
     tested d (placed 4 y).tokens (symbol x ∷ (placed 4 z).tokens) l (λ arg. e.Binary o arg r) (in_place 4 y l (lit≤ tt) hl d (omega arith))
-    (compared_by d (token_lexeme (symbol x)) (token_lexemes (placed 4 z).tokens) r o ho (in_place 4 z r (lit≤ tt) hr d (omega arith)))
+    (compared_by d (sign (kind_of_symbol x)) (token_lexemes (placed 4 z).tokens) r o ho (in_place 4 z r (lit≤ tt) hr d (omega arith)))
 
 binary_spelled : (op : BinaryOp) (y z : Spelling) (l r : Expr) → IsSpelled y l → IsSpelled z r → IsSpelled (spelled_at (Expr-F.Binary op y z)) (e.Binary op l r)
 unfolding expression conjunction sum term expression_operator conjunction_operator sum_operator term_operator comparison
@@ -91,12 +91,12 @@ binary_spelled binary.AtLeast y z l r hl hr d b = comparison_is d y z l r s.AtLe
 
 -- ---- a leaf, and an operator before its operand
 
-literal_spelled : (v : Value) → fits_value v ≡ true → IsSpelled (spelled_at (Expr-F.Literal v)) (e.Literal v)
+literal_spelled : (v : Value) → is_parsable_value v ≡ true → IsSpelled (spelled_at (Expr-F.Literal v)) (e.Literal v)
 unfolding primary
 literal_spelled value.Null f d b = inr (inr (inl (tt, (sign k.Null, refl, refl, refl), refl)))
-literal_spelled (value.Int (pos n)) f d b = inl (pos n, (token_lexeme (number n), refl, refl, refl), refl)
+literal_spelled (value.Int (pos n)) f d b = inl (pos n, (number_lexeme n, refl, refl, refl), refl)
 literal_spelled (value.Int (negsuc n)) f d b = cc
-literal_spelled (value.Text t) f d b = inr (inl (t, (token_lexeme (quoted t), refl, refl, refl), refl))
+literal_spelled (value.Text t) f d b = inr (inl (t, (quoted_lexeme t, refl, refl, refl), refl))
 
 -- a name is read as it is
 pub named : (n : List ℕ) → is_name n ≡ true → some_name n ≡ Some n
@@ -106,24 +106,24 @@ and_true : (a b : Bool) → (a && b) ≡ true → (a ≡ true) × (b ≡ true)
 and_true true b q = (refl, q)
 and_true false b q = cc
 
-pub column_derives : (d : ℕ) (table : Option (List ℕ)) (n : List ℕ) → (fits_table table && is_name n) ≡ true
+pub column_derives : (d : ℕ) (table : Option (List ℕ)) (n : List ℕ) → (is_parsable_table table && is_name n) ≡ true
     → DerivesWithin sql d column (token_lexemes (Rattle.wat_spell.specs.Spelling.column table n)) (e.Named table n)
 unfolding column
-column_derives d None n f = ((n, None), (token_lexeme (name n) ∷ [], [], refl, (token_lexeme (name n), refl, refl, named n (and_true true (is_name n) f).1), inr (refl, refl)), refl)
+column_derives d None n f = ((n, None), (name_lexeme n ∷ [], [], refl, (name_lexeme n, refl, refl, named n (and_true true (is_name n) f).1), inr (refl, refl)), refl)
 column_derives d (Some table) n f =
     let both = and_true (is_name table) (is_name n) f in (
       (table, Some n),
       (
-        token_lexeme (name table) ∷ [],
-        sign k.Dot ∷ token_lexeme (name n) ∷ [],
+        name_lexeme table ∷ [],
+        sign k.Dot ∷ name_lexeme n ∷ [],
         refl,
-        (token_lexeme (name table), refl, refl, named table both.0),
-        inl (n, ((tt, n), (sign k.Dot ∷ [], token_lexeme (name n) ∷ [], refl, (sign k.Dot, refl, refl, refl), (token_lexeme (name n), refl, refl, named n both.1)), refl), refl),
+        (name_lexeme table, refl, refl, named table both.0),
+        inl (n, ((tt, n), (sign k.Dot ∷ [], name_lexeme n ∷ [], refl, (sign k.Dot, refl, refl, refl), (name_lexeme n, refl, refl, named n both.1)), refl), refl),
       ),
       refl,
     )
 
-named_spelled : (table : Option (List ℕ)) (n : List ℕ) → (fits_table table && is_name n) ≡ true → IsSpelled (spelled_at (Expr-F.Named table n)) (e.Named table n)
+named_spelled : (table : Option (List ℕ)) (n : List ℕ) → (is_parsable_table table && is_name n) ≡ true → IsSpelled (spelled_at (Expr-F.Named table n)) (e.Named table n)
 unfolding primary
 named_spelled table n f d b = inr (inr (inr (inl (column_derives d table n f))))
 
@@ -223,7 +223,7 @@ module _ {S : Type 0} (sp : S → Spelling) (ex : S → Expr) (ok : S → Bool) 
   )
 
   list_derives : ((y : S) → ok y ≡ true → (sp y).levels ≤ d → DerivesWithin sql d expression (token_lexemes (sp y).tokens) (ex y)) → (x : S) (xs : List S) → all_of (map ok (x ∷ xs)) ≡ true → deepest (map sp (x ∷ xs)) ≤ d
-      → DerivesWithin sql (suc d) (list (nested Whole)) (token_lexemes (listed (λ y. y.tokens) (map sp (x ∷ xs)))) (map ex (x ∷ xs))
+      → DerivesWithin sql (suc d) (list (nested Whole)) (token_lexemes (with_commas (λ y. y.tokens) (map sp (x ∷ xs)))) (map ex (x ∷ xs))
   list_derives h x xs a b = ((ex x, map ex xs), (token_lexemes (sp x).tokens, token_lexemes (tail xs), lexemes_append (sp x).tokens (tail xs), h x (fit_parts x xs a).0 (omega arith), rest_listed h xs (fit_parts x xs a).1 (omega arith)), refl)
 
 among_test : (d : ℕ) (negated : Bool) (ts : List Token) (xs : List Expr) → DerivesWithin sql (suc d) (list (nested Whole)) (token_lexemes ts) xs
@@ -254,10 +254,10 @@ map_map f g [] = refl
 map_map {C = C} f g (x ∷ xs) = ap (λ (z : List C). g (f x) ∷ z) (map_map f g xs)
 
 in_list_spelled : (negated : Bool) (y : Spelling) (x : Expr) (ss : List Spelling) (xs : List Expr) → IsSpelled y x
-    → ((d : ℕ) → deepest ss ≤ d → DerivesWithin sql (suc d) (list (nested Whole)) (token_lexemes (listed (λ z. z.tokens) ss)) xs) → IsSpelled (spelled_at (Expr-F.InList y ss negated)) (e.InList x xs negated)
+    → ((d : ℕ) → deepest ss ≤ d → DerivesWithin sql (suc d) (list (nested Whole)) (token_lexemes (with_commas (λ z. z.tokens) ss)) xs) → IsSpelled (spelled_at (Expr-F.InList y ss negated)) (e.InList x xs negated)
 in_list_spelled negated y x ss xs h hs zero b = absurd (omega arith)
 in_list_spelled negated y x ss xs h hs (suc d) b = tested (suc d) (placed 4 y).tokens _ x (λ arg. e.InList arg xs negated) (in_place 4 y x (lit≤ tt) h (suc d) (omega arith))
-    (negated_test (suc d) negated _ (λ arg. e.InList arg xs negated) (among_test d negated (listed (λ z. z.tokens) ss) xs (hs d (omega arith))))
+    (negated_test (suc d) negated _ (λ arg. e.InList arg xs negated) (among_test d negated (with_commas (λ z. z.tokens) ss) xs (hs d (omega arith))))
 
 -- ---- aggregates
 
@@ -348,24 +348,24 @@ aggregate_spelled aggregate.Max y x h (suc d) b = aggregated_by d aggregate.Max 
 -- ---- every tree
 
 abbrev Claim : Expr → Type 0
-Claim x = fits x ≡ true → IsSpelled (spelled x) x
+Claim x = is_parsable x ≡ true → IsSpelled (spelled x) x
 
 carry : (layer : Expr-F Expr) (x : Expr) → roll-Expr layer ≡ x
-    → (fits_at (map-Expr Expr Bool fits layer) ≡ true → IsSpelled (spelled_at (map-Expr Expr Spelling spelled layer)) x) → Claim (roll-Expr layer)
-unfolding spelled fits
+    → (is_parsable_at (map-Expr Expr Bool is_parsable layer) ≡ true → IsSpelled (spelled_at (map-Expr Expr Spelling spelled layer)) x) → Claim (roll-Expr layer)
+unfolding spelled is_parsable
 carry layer x r h f =
-    let f' : fits (roll-Expr layer) ≡ fits_at (map-Expr Expr Bool fits layer) = fold-roll-Expr Bool fits_at layer in
+    let f' : is_parsable (roll-Expr layer) ≡ is_parsable_at (map-Expr Expr Bool is_parsable layer) = fold-roll-Expr Bool is_parsable_at layer in
     let s' : spelled (roll-Expr layer) ≡ spelled_at (map-Expr Expr Spelling spelled layer) = fold-roll-Expr Spelling spelled_at layer in
     subst (λ (z : Expr). IsSpelled (spelled (roll-Expr layer)) z) (sym r) (subst (λ (y : Spelling). IsSpelled y x) (sym s') (h (sym f' ∙ f)))
 
-items_derive : {S : Type 0} (ex : S → Expr) (pr : (y : S) → Claim (ex y)) (x : S) (xs : List S) → all_of (map fits (map ex (x ∷ xs))) ≡ true
-    → (d : ℕ) → deepest (map spelled (map ex (x ∷ xs))) ≤ d → DerivesWithin sql (suc d) (list (nested Whole)) (token_lexemes (listed (λ z. z.tokens) (map spelled (map ex (x ∷ xs))))) (map ex (x ∷ xs))
+items_derive : {S : Type 0} (ex : S → Expr) (pr : (y : S) → Claim (ex y)) (x : S) (xs : List S) → all_of (map is_parsable (map ex (x ∷ xs))) ≡ true
+    → (d : ℕ) → deepest (map spelled (map ex (x ∷ xs))) ≤ d → DerivesWithin sql (suc d) (list (nested Whole)) (token_lexemes (with_commas (λ z. z.tokens) (map spelled (map ex (x ∷ xs))))) (map ex (x ∷ xs))
 items_derive {S} ex pr x xs a d b =
     let sp : S → Spelling = λ y. spelled (ex y) in
     let ss : map spelled (map ex (x ∷ xs)) ≡ map sp (x ∷ xs) = map_map ex spelled (x ∷ xs) in
-    subst (λ (z : List Spelling). DerivesWithin sql (suc d) (list (nested Whole)) (token_lexemes (listed (λ y. y.tokens) z)) (map ex (x ∷ xs))) (sym ss)
-    (list_derives sp ex (λ y. fits (ex y)) d (λ y o l. down_to (sp y).rank 0 d (token_lexemes (sp y).tokens) (ex y) (omega arith) (pr y o d l)) x xs
-    (subst (λ (z : List Bool). all_of z ≡ true) (map_map ex fits (x ∷ xs)) a) (subst (λ (z : List Spelling). deepest z ≤ d) ss b))
+    subst (λ (z : List Spelling). DerivesWithin sql (suc d) (list (nested Whole)) (token_lexemes (with_commas (λ y. y.tokens) z)) (map ex (x ∷ xs))) (sym ss)
+    (list_derives sp ex (λ y. is_parsable (ex y)) d (λ y o l. down_to (sp y).rank 0 d (token_lexemes (sp y).tokens) (ex y) (omega arith) (pr y o d l)) x xs
+    (subst (λ (z : List Bool). all_of z ≡ true) (map_map ex is_parsable (x ∷ xs)) a) (subst (λ (z : List Spelling). deepest z ≤ d) ss b))
 
 step : {S : Type 0} (ex : S → Expr) (pr : (y : S) → Claim (ex y)) (y : Expr-F S) → Claim (roll-Expr (map-Expr S Expr ex y))
 step ex pr (Expr-F.Literal v) = carry (Expr-F.Literal v) (e.Literal v) (e.rolls-Literal v) (literal_spelled v)
@@ -373,31 +373,31 @@ step ex pr (Expr-F.Named table n) = carry (Expr-F.Named table n) (e.Named table 
 step ex pr (Expr-F.Placed source column) = carry (Expr-F.Placed source column) (e.Placed source column) (e.rolls-Placed source column) (λ f. let z : false ≡ true = f in cc)
 step ex pr (Expr-F.Unary op a) = carry (Expr-F.Unary op (ex a)) (e.Unary op (ex a)) (e.rolls-Unary op (ex a)) (λ f. unary_spelled op (spelled (ex a)) (ex a) (pr a f))
 step ex pr (Expr-F.Binary op l r) = carry (Expr-F.Binary op (ex l) (ex r)) (e.Binary op (ex l) (ex r)) (e.rolls-Binary op (ex l) (ex r))
-    (λ f. let both = and_true (fits (ex l)) _ f in binary_spelled op (spelled (ex l)) (spelled (ex r)) (ex l) (ex r) (pr l both.0) (pr r both.1))
+    (λ f. let both = and_true (is_parsable (ex l)) _ f in binary_spelled op (spelled (ex l)) (spelled (ex r)) (ex l) (ex r) (pr l both.0) (pr r both.1))
 step ex pr (Expr-F.IsNull a n) = carry (Expr-F.IsNull (ex a) n) (e.IsNull (ex a) n) (e.rolls-IsNull (ex a) n) (λ f. is_null_spelled n (spelled (ex a)) (ex a) (pr a f))
 step ex pr (Expr-F.Between a l h n) = carry (Expr-F.Between (ex a) (ex l) (ex h) n) (e.Between (ex a) (ex l) (ex h) n) (e.rolls-Between (ex a) (ex l) (ex h) n)
-    (λ f. let all = and_true (fits (ex a)) _ f in let both = and_true (fits (ex l)) _ all.1 in
+    (λ f. let all = and_true (is_parsable (ex a)) _ f in let both = and_true (is_parsable (ex l)) _ all.1 in
     between_spelled n (spelled (ex a)) (spelled (ex l)) (spelled (ex h)) (ex a) (ex l) (ex h) (pr a all.0) (pr l both.0) (pr h both.1))
-step ex pr (Expr-F.InList a [] n) = carry (Expr-F.InList (ex a) [] n) (e.InList (ex a) [] n) (e.rolls-InList (ex a) [] n) (λ f. let both = and_true (fits (ex a)) _ f in let z : false ≡ true = both.1 in cc)
+step ex pr (Expr-F.InList a [] n) = carry (Expr-F.InList (ex a) [] n) (e.InList (ex a) [] n) (e.rolls-InList (ex a) [] n) (λ f. let both = and_true (is_parsable (ex a)) _ f in let z : false ≡ true = both.1 in cc)
 step ex pr (Expr-F.InList a (x ∷ xs) n) = carry (Expr-F.InList (ex a) (map ex (x ∷ xs)) n) (e.InList (ex a) (map ex (x ∷ xs)) n) (e.rolls-InList (ex a) (map ex (x ∷ xs)) n)
-    (λ f. let both = and_true (fits (ex a)) _ f in
+    (λ f. let both = and_true (is_parsable (ex a)) _ f in
     in_list_spelled n (spelled (ex a)) (ex a) (map spelled (map ex (x ∷ xs))) (map ex (x ∷ xs)) (pr a both.0) (items_derive ex pr x xs both.1))
 step ex pr (Expr-F.Aggregate kind None) = carry (Expr-F.Aggregate kind None) (e.Aggregate kind None) (e.rolls-Aggregate kind None) (count_all kind)
   where
-    count_all : (kind : AggregateKind) → fits_aggregate kind None ≡ true → IsSpelled (spelled_at (Expr-F.Aggregate kind None)) (e.Aggregate kind None)
+    count_all : (kind : AggregateKind) → is_parsable_aggregate kind None ≡ true → IsSpelled (spelled_at (Expr-F.Aggregate kind None)) (e.Aggregate kind None)
     count_all aggregate.Count f = count_all_spelled
     count_all aggregate.Sum f = let z : false ≡ true = f in cc
     count_all aggregate.Min f = let z : false ≡ true = f in cc
     count_all aggregate.Max f = let z : false ≡ true = f in cc
 step ex pr (Expr-F.Aggregate kind (Some a)) = carry (Expr-F.Aggregate kind (Some (ex a))) (e.Aggregate kind (Some (ex a))) (e.rolls-Aggregate kind (Some (ex a)))
-    (λ f. aggregate_spelled kind (spelled (ex a)) (ex a) (pr a (fits_some kind (fits (ex a)) f)))
+    (λ f. aggregate_spelled kind (spelled (ex a)) (ex a) (pr a (parsable_some kind (is_parsable (ex a)) f)))
   where
-    fits_some : (kind : AggregateKind) (b : Bool) → fits_aggregate kind (Some b) ≡ true → b ≡ true
-    fits_some aggregate.Count b f = f
-    fits_some aggregate.Sum b f = f
-    fits_some aggregate.Min b f = f
-    fits_some aggregate.Max b f = f
+    parsable_some : (kind : AggregateKind) (b : Bool) → is_parsable_aggregate kind (Some b) ≡ true → b ≡ true
+    parsable_some aggregate.Count b f = f
+    parsable_some aggregate.Sum b f = f
+    parsable_some aggregate.Min b f = f
+    parsable_some aggregate.Max b f = f
 
 -- Where there are enough levels, what spells a tree is derived, and gives that tree.
-pub spelled_derives : (x : Expr) → fits x ≡ true → IsSpelled (spelled x) x
-spelled_derives = ind-Expr (λ x. fits x ≡ true → IsSpelled (spelled x) x) (λ x y q. subst (λ (z : Expr-F Expr). Claim (roll-Expr z)) q (step (λ z. z.0) (λ z. z.1) y))
+pub spelled_derives : (x : Expr) → is_parsable x ≡ true → IsSpelled (spelled x) x
+spelled_derives = ind-Expr (λ x. is_parsable x ≡ true → IsSpelled (spelled x) x) (λ x y q. subst (λ (z : Expr-F Expr). Claim (roll-Expr z)) q (step (λ z. z.0) (λ z. z.1) y))

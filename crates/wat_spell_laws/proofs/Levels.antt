@@ -20,8 +20,8 @@ use Rattle.wat_syntax.specs.Lexeme.{Lexeme}
 use Rattle.wat_syntax.specs.Sql.{Sql, sql, word as word_phrase, before, optional, Change, operation, chain, list, after, in_parentheses, some_name, among, is_null, between, ranged, column, parenthesized, count, count_argument, aggregated, primary, expression, conjunction, negation, predicate, sum, term, factor, test, compared, comparison, expression_operator, conjunction_operator, sum_operator, term_operator}
 use Rattle.wat_spell.specs.Spelling.{Spelling, spelled, placed, enclosed, deepest, operator_rank, left_rank, right_rank, binary_of, unary_of, is_null_of, between_of, in_list_of, aggregate_of, literal, atom}
 use Rattle.wat_spell.proofs.Spelled.{spelled_literal, spelled_named, spelled_unary, spelled_binary, spelled_is_null, spelled_between, spelled_in_list, spelled_aggregate}
-use Rattle.wat_spell_laws.specs.Derived.{fits, fits_value, fits_table, all_of}
-use Rattle.wat_spell_laws.proofs.Fits.{fits_literal, fits_named, fits_unary, fits_binary, fits_is_null, fits_between, fits_in_list, fits_count, fits_aggregate_of}
+use Rattle.wat_spell_laws.specs.Derived.{is_parsable, is_parsable_value, is_parsable_table, all_of}
+use Rattle.wat_spell_laws.proofs.Parsable.{parsable_literal, parsable_named, parsable_unary, parsable_binary, parsable_is_null, parsable_between, parsable_in_list, parsable_count, parsable_aggregate_of}
 
 -- whether the number of a token is at most 2 ^ 63 - 1
 abbrev pub small_number : Option ℕ → Bool
@@ -47,7 +47,7 @@ parts ts us vs q h = small_parts us vs (subst (λ (z : List Lexeme). AreSmall z)
 -- At its place it opens no more levels, and some text gives it.
 pub record IsLow (place d : ℕ) (x : Expr) : Type 0 where
   pub levels : (placed place (spelled x)).levels ≤ d
-  pub fit : fits x ≡ true
+  pub fit : is_parsable x ≡ true
 
 -- ---- places
 
@@ -78,7 +78,7 @@ pub loosened : (m n d : ℕ) (x : Expr) → m ≤ n → IsLow n d x → IsLow m 
 loosened m n d x h low = record { levels = omega (arith, looser m n (spelled x) h, low.levels); fit = low.fit }
 
 -- an expression that is spelled so, and binds tightly enough
-low_by : (place d : ℕ) (x x' : Expr) (y : Spelling) → x ≡ x' → spelled x' ≡ y → place ≤ y.rank → y.levels ≤ d → fits x' ≡ true → IsLow place d x
+low_by : (place d : ℕ) (x x' : Expr) (y : Spelling) → x ≡ x' → spelled x' ≡ y → place ≤ y.rank → y.levels ≤ d → is_parsable x' ≡ true → IsLow place d x
 low_by place d x x' y q p r l f =
     let here : IsLow place d x' = record {
       levels =
@@ -96,7 +96,7 @@ place_of Negation = 2
 place_of Factor = 6
 
 abbrev Inner : ℕ → Type 0
-Inner d = (n : Nest) (ts : List Lexeme) (x : Expr) → DerivesInside sql d n ts x → AreSmall ts → ((placed (place_of n) (spelled x)).levels + 1 ≤ d) × (fits x ≡ true)
+Inner d = (n : Nest) (ts : List Lexeme) (x : Expr) → DerivesInside sql d n ts x → AreSmall ts → ((placed (place_of n) (spelled x)).levels + 1 ≤ d) × (is_parsable x ≡ true)
 
 -- in parentheses
 pub within_parentheses : {A : Type 0} (d : ℕ) (p : Sql A) (ts : List Lexeme) (a : A) → DerivesWithin sql d (in_parentheses p) ts a → AreSmall ts
@@ -130,16 +130,16 @@ number_low : (d : ℕ) (l : Lexeme) (n : ℤ) (x : Expr) (o : Option ℕ) → l.
 number_low d l n x None p q g r = cc
 number_low d l n x (Some m) p q g r =
     let same : pos m ≡ n = cc in
-    let small : fits_value (value.Int (pos m)) ≡ true = ap (λ (o : Option ℕ). small_number o) (sym p) ∙ g in
+    let small : is_parsable_value (value.Int (pos m)) ≡ true = ap (λ (o : Option ℕ). small_number o) (sym p) ∙ g in
     low_by 7 d x (e.Literal (value.Int (pos m))) (literal (value.Int (pos m))) (r ∙ ap (λ (z : ℤ). e.Literal (value.Int z)) (sym same)) (spelled_literal (value.Int (pos m)))
-    (omega arith) (omega arith) (fits_literal (value.Int (pos m)) ∙ small)
+    (omega arith) (omega arith) (parsable_literal (value.Int (pos m)) ∙ small)
 
 -- a column, by its names
 pub record IsColumn (x : Expr) : Type 0 where
   pub table : Option (List ℕ)
   pub column : List ℕ
   pub is : x ≡ e.Named table column
-  pub fit : (fits_table table && is_name column) ≡ true
+  pub fit : (is_parsable_table table && is_name column) ≡ true
 
 pub column_shape : (d : ℕ) (ts : List Lexeme) (x : Expr) → DerivesWithin sql d column ts x → IsColumn x
 unfolding column
@@ -155,10 +155,10 @@ column_shape d ts x ((t, Some n), (us, vs, q, ht, inr rest), r) = let z : Some n
 column_low : (d : ℕ) (ts : List Lexeme) (x : Expr) → DerivesWithin sql d column ts x → IsLow 7 d x
 column_low d ts x h =
     let c = column_shape d ts x h in
-    low_by 7 d x (e.Named c.table c.column) (atom (Rattle.wat_spell.specs.Spelling.column c.table c.column)) c.is (spelled_named c.table c.column) (omega arith) (omega arith) (fits_named c.table c.column ∙ c.fit)
+    low_by 7 d x (e.Named c.table c.column) (atom (Rattle.wat_spell.specs.Spelling.column c.table c.column)) c.is (spelled_named c.table c.column) (omega arith) (omega arith) (parsable_named c.table c.column ∙ c.fit)
 
 -- What is in parentheses takes a level, and may stand anywhere.
-enclosed_low : (place d : ℕ) (x : Expr) → ((placed 0 (spelled x)).levels + 1 ≤ d) × (fits x ≡ true) → IsLow place d x
+enclosed_low : (place d : ℕ) (x : Expr) → ((placed 0 (spelled x)).levels + 1 ≤ d) × (is_parsable x ≡ true) → IsLow place d x
 enclosed_low place d x h = record { levels = omega (arith, placed_low place (spelled x), placed_low 0 (spelled x), h.0); fit = h.1 }
 
 parenthesized_low : (d : ℕ) → Inner d → (ts : List Lexeme) (x : Expr) → DerivesWithin sql d parenthesized ts x → AreSmall ts → IsLow 7 d x
@@ -167,9 +167,9 @@ parenthesized_low d inner ts x h g =
     let there = within_parentheses d (nested Whole) ts x h.1 g in
     enclosed_low 7 d x (inner Whole there.0 x there.1 there.2)
 
-argument_low : (d : ℕ) (kind : AggregateKind) (x a : Expr) → x ≡ e.Aggregate kind (Some a) → ((placed 0 (spelled a)).levels + 1 ≤ d) × (fits a ≡ true) → IsLow 7 d x
+argument_low : (d : ℕ) (kind : AggregateKind) (x a : Expr) → x ≡ e.Aggregate kind (Some a) → ((placed 0 (spelled a)).levels + 1 ≤ d) × (is_parsable a ≡ true) → IsLow 7 d x
 argument_low d kind x a q h =
-    low_by 7 d x (e.Aggregate kind (Some a)) (aggregate_of kind (Some (spelled a))) q (spelled_aggregate kind (Some a)) (omega arith) (omega (arith, placed_low 0 (spelled a), h.0)) (fits_aggregate_of kind a ∙ h.1)
+    low_by 7 d x (e.Aggregate kind (Some a)) (aggregate_of kind (Some (spelled a))) q (spelled_aggregate kind (Some a)) (omega arith) (omega (arith, placed_low 0 (spelled a), h.0)) (parsable_aggregate_of kind a ∙ h.1)
 
 -- ---- the phrases behind a word
 
@@ -200,7 +200,7 @@ count_low d inner ts x h g = decide h.1.0 h.1.2 (within_parentheses d count_argu
 
     decide : (arg : Option Expr) → x ≡ e.Aggregate aggregate.Count arg → (vs : List Lexeme) × DerivesWithin sql d count_argument vs arg × AreSmall vs → IsLow 7 d x
     decide arg q (vs, inl star, tiny) =
-        low_by 7 d x (e.Aggregate aggregate.Count None) (aggregate_of aggregate.Count None) (q ∙ ap (e.Aggregate aggregate.Count) star.2) (spelled_aggregate aggregate.Count None) (omega arith) (positive d h.0) fits_count
+        low_by 7 d x (e.Aggregate aggregate.Count None) (aggregate_of aggregate.Count None) (q ∙ ap (e.Aggregate aggregate.Count) star.2) (spelled_aggregate aggregate.Count None) (omega arith) (positive d h.0) parsable_count
     decide arg q (vs, inr some, tiny) = argument_low d aggregate.Count x some.0 (q ∙ ap (e.Aggregate aggregate.Count) some.2) (inner Whole vs some.0 some.1 tiny)
 
 aggregated_low : (d : ℕ) → Inner d → (ts : List Lexeme) (x : Expr) → DerivesWithin sql d aggregated ts x → AreSmall ts → IsLow 7 d x
@@ -218,8 +218,8 @@ unfolding primary
 primary_low d inner ts x (inl (n, (l, q, kind, there), r)) g =
     let one : is_small l ≡ true = (and_parts (is_small l) true (subst (λ (z : List Lexeme). AreSmall z) q g)).0 in
     number_low d l n x l.number refl there one r
-primary_low d inner ts x (inr (inl (t, there, r))) g = low_by 7 d x (e.Literal (value.Text t)) (literal (value.Text t)) r (spelled_literal (value.Text t)) (omega arith) (omega arith) (fits_literal (value.Text t))
-primary_low d inner ts x (inr (inr (inl (t, there, r)))) g = low_by 7 d x (e.Literal value.Null) (literal value.Null) r (spelled_literal value.Null) (omega arith) (omega arith) (fits_literal value.Null)
+primary_low d inner ts x (inr (inl (t, there, r))) g = low_by 7 d x (e.Literal (value.Text t)) (literal (value.Text t)) r (spelled_literal (value.Text t)) (omega arith) (omega arith) (parsable_literal (value.Text t))
+primary_low d inner ts x (inr (inr (inl (t, there, r)))) g = low_by 7 d x (e.Literal value.Null) (literal value.Null) r (spelled_literal value.Null) (omega arith) (omega arith) (parsable_literal value.Null)
 primary_low d inner ts x (inr (inr (inr (inl h)))) g = column_low d ts x h
 primary_low d inner ts x (inr (inr (inr (inr (inl h))))) g = parenthesized_low d inner ts x h g
 primary_low d inner ts x (inr (inr (inr (inr (inr (inl h)))))) g = count_low d inner ts x h g
@@ -233,7 +233,7 @@ factor_low d inner ts x (inl h) g =
     let there = behind_word d k.Minus minus_of ts x h.1 g in
     let made = there.1 in
     let arg = inner Factor there.0 made.0 made.1 there.2 in
-    low_by 6 d x (e.Unary unary.Minus made.0) (unary_of unary.Minus (spelled made.0)) made.2 (spelled_unary unary.Minus made.0) (omega arith) arg.0 (fits_unary unary.Minus made.0 ∙ arg.1)
+    low_by 6 d x (e.Unary unary.Minus made.0) (unary_of unary.Minus (spelled made.0)) made.2 (spelled_unary unary.Minus made.0) (omega arith) arg.0 (parsable_unary unary.Minus made.0 ∙ arg.1)
 factor_low d inner ts x (inr h) g = loosened 6 7 d x (omega arith) (primary_low d inner ts x h g)
 
 both_true : (a b : Bool) → a ≡ true → b ≡ true → (a && b) ≡ true
@@ -243,7 +243,7 @@ binary_low : (n d : ℕ) (o : BinaryOp) (l r : Expr) → operator_rank o ≡ n �
 binary_low n d o l r q hl hr =
     let right : (placed (operator_rank o + 1) (spelled r)).levels ≤ d = subst (λ (m : ℕ). (placed (m + 1) (spelled r)).levels ≤ d) (sym q) hr.levels in
     let most : max (placed (left_rank o) (spelled l)).levels (placed (operator_rank o + 1) (spelled r)).levels ≤ d = omega (arith, hl.levels, right) in
-    low_by n d (e.Binary o l r) (e.Binary o l r) (binary_of o (spelled l) (spelled r)) refl (spelled_binary o l r) (omega (arith, q)) most (fits_binary o l r ∙ both_true (fits l) (fits r) hl.fit hr.fit)
+    low_by n d (e.Binary o l r) (e.Binary o l r) (binary_of o (spelled l) (spelled r)) refl (spelled_binary o l r) (omega (arith, q)) most (parsable_binary o l r ∙ both_true (is_parsable l) (is_parsable r) hl.fit hr.fit)
 
 -- an operator of a chain of this rank
 abbrev Chains : ℕ → ℕ → Sql BinaryOp → Type 0
@@ -330,7 +330,7 @@ is_null_low d ts change h g =
     let there = behind_word d k.Is null_of ts change h g in
     let made = there.1 in
     tests_same d change (λ arg. e.IsNull arg made.0) made.2
-    (λ l low. low_by 3 d (e.IsNull l made.0) (e.IsNull l made.0) (is_null_of (spelled l) made.0) refl (spelled_is_null l made.0) (omega arith) low.levels (fits_is_null l made.0 ∙ low.fit))
+    (λ l low. low_by 3 d (e.IsNull l made.0) (e.IsNull l made.0) (is_null_of (spelled l) made.0) refl (spelled_is_null l made.0) (omega arith) low.levels (parsable_is_null l made.0 ∙ low.fit))
 
 -- what makes a test of a sum, once it is known whether NOT stands before
 abbrev Ranges : ℕ → (Bool → Change) → Type 0
@@ -350,22 +350,22 @@ between_low d inner ts change h g =
     subst (λ (c : Bool → Change). Ranges d c) (sym made.2)
     (λ n l hl. low_by 3 d (build n l) (build n l) (between_of (spelled l) (spelled made.0.0) (spelled made.0.1) n) refl (spelled_between l made.0.0 made.0.1 n) (omega arith)
     (omega (arith, hl.levels, low.levels, high.levels))
-    (fits_between l made.0.0 made.0.1 n ∙ both_true (fits l) _ hl.fit (both_true (fits made.0.0) (fits made.0.1) low.fit high.fit)))
+    (parsable_between l made.0.0 made.0.1 n ∙ both_true (is_parsable l) _ hl.fit (both_true (is_parsable made.0.0) (is_parsable made.0.1) low.fit high.fit)))
 
 -- ---- lists
 
 record AreLow (d : ℕ) (x : Expr) (xs : List Expr) : Type 0 where
   pub levels : deepest (map spelled (x ∷ xs)) + 1 ≤ d
-  pub fit : all_of (map fits (x ∷ xs)) ≡ true
+  pub fit : all_of (map is_parsable (x ∷ xs)) ≡ true
 
-more_low : (d : ℕ) → Inner d → (x : Expr) (xs : List Expr) (ts : List Lexeme) → ((placed 0 (spelled x)).levels + 1 ≤ d) × (fits x ≡ true)
+more_low : (d : ℕ) → Inner d → (x : Expr) (xs : List Expr) (ts : List Lexeme) → ((placed 0 (spelled x)).levels + 1 ≤ d) × (is_parsable x ≡ true)
     → Repeats (DerivesWithin sql d (after k.Comma (nested Whole))) ts xs → AreSmall ts → AreLow d x xs
 more_low d inner x [] ts h r g = record { levels = omega (arith, placed_low 0 (spelled x), h.0); fit = h.1 }
 more_low d inner x (y ∷ ys) ts h r g =
     let small = parts ts r.0 r.1 r.2 g in
     let there = behind_word d k.Comma (nested Whole) r.0 y r.3 small.0 in
     let rest = more_low d inner y ys r.1 (inner Whole there.0 y there.1 there.2) r.4 small.1 in
-    record { levels = omega (arith, placed_low 0 (spelled x), h.0, rest.levels); fit = both_true (fits x) _ h.1 rest.fit }
+    record { levels = omega (arith, placed_low 0 (spelled x), h.0, rest.levels); fit = both_true (is_parsable x) _ h.1 rest.fit }
 
 among_low : (d : ℕ) → Inner d → (ts : List Lexeme) (change : Bool → Change) → DerivesWithin sql d among ts change → AreSmall ts → Ranges d change
 unfolding among
@@ -383,7 +383,7 @@ among_low d inner ts change h g =
     let same : change ≡ build = made.2 ∙ ap make items.2 in
     subst (λ (c : Bool → Change). Ranges d c) (sym same)
     (λ n l hl. low_by 3 d (build n l) (build n l) (in_list_of (spelled l) (map spelled xs) n) refl (spelled_in_list l xs n) (omega arith)
-    (omega (arith, hl.levels, all.levels)) (fits_in_list l xs n ∙ both_true (fits l) _ hl.fit all.fit))
+    (omega (arith, hl.levels, all.levels)) (parsable_in_list l xs n ∙ both_true (is_parsable l) _ hl.fit all.fit))
 
 ranged_low : (d : ℕ) → Inner d → (negated : Bool) (ts : List Lexeme) (change : Change) → DerivesWithin sql d (ranged negated) ts change → AreSmall ts → Tests d change
 unfolding ranged
@@ -413,7 +413,7 @@ negation_low d inner ts x (inl h) g =
     let there = behind_word d k.Not not_of ts x h.1 g in
     let made = there.1 in
     let arg = inner Negation there.0 made.0 made.1 there.2 in
-    low_by 2 d x (e.Unary unary.Not made.0) (unary_of unary.Not (spelled made.0)) made.2 (spelled_unary unary.Not made.0) (omega arith) arg.0 (fits_unary unary.Not made.0 ∙ arg.1)
+    low_by 2 d x (e.Unary unary.Not made.0) (unary_of unary.Not (spelled made.0)) made.2 (spelled_unary unary.Not made.0) (omega arith) arg.0 (parsable_unary unary.Not made.0 ∙ arg.1)
 negation_low d inner ts x (inr h) g = loosened 2 3 d x (omega arith) (predicate_low d inner ts x h g)
 
 conjunction_low : (d : ℕ) → Inner d → (ts : List Lexeme) (x : Expr) → DerivesWithin sql d conjunction ts x → AreSmall ts → IsLow 1 d x

@@ -1,9 +1,11 @@
+mod Alike
+mod BelowZero
 mod Derives
-mod Fits
 mod Levels
 mod Lifts
+mod Parsable
 mod Parts
-mod Pieces
+mod Readable
 mod Respelled
 mod Tokens
 mod Whole

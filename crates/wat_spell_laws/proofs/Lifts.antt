@@ -11,11 +11,11 @@ use Rattle.wat_syntax.specs.Lexeme.{Lexeme}
 use Rattle.wat_syntax.specs.Sql.{Sql, sql, operation, chain, expression, conjunction, negation, predicate, sum, term, factor, primary, parenthesized, test, expression_operator, conjunction_operator, sum_operator, term_operator}
 use Rattle.wat_spell.specs.declared.symbol.Symbol.TheVariants as s
 use Rattle.wat_spell.specs.Tokens.{Token, symbol}
-use Rattle.wat_spell_laws.specs.Derived.{phrase_of, sign, token_lexeme, token_lexemes}
+use Rattle.wat_spell_laws.specs.Derived.{phrase_of, sign, lexemes_of_token, token_lexemes}
 
 pub lexemes_append : (ts us : List Token) → token_lexemes (ts ++ us) ≡ token_lexemes ts ++ token_lexemes us
 lexemes_append [] us = refl
-lexemes_append (t ∷ ts) us = ap (λ (z : List Lexeme). token_lexeme t ∷ z) (lexemes_append ts us)
+lexemes_append (t ∷ ts) us = ap (λ (z : List Lexeme). lexemes_of_token t ++ z) (lexemes_append ts us) ∙ sym (append_assoc (lexemes_of_token t) (token_lexemes ts) (token_lexemes us))
 
 -- an operand is a chain of no operations
 pub one : (d : ℕ) (op : Sql BinaryOp) (p : Sql Expr) (ts : List Lexeme) (x : Expr) → DerivesWithin sql d p ts x → DerivesWithin sql d (chain op p) ts x

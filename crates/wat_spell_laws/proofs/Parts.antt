@@ -14,12 +14,12 @@ use Rattle.wat_syntax.specs.Sql.{Sql, sql, some_name}
 use Rattle.wat_spell.specs.declared.symbol.Symbol.{Symbol}
 use Rattle.wat_spell.specs.declared.symbol.Symbol.TheVariants as s
 use Rattle.wat_spell.specs.Tokens.{Token, word, name, number, symbol}
-use Rattle.wat_spell.specs.Spelling.{Spelling, spelled, integer, tokens_if, comma, listed, by, expression, column}
+use Rattle.wat_spell.specs.Spelling.{Spelling, spelled, integer, tokens_if, comma, with_commas, by, expression, column}
 use Rattle.wat_spell.proofs.Spelled.{spelled_named}
-use Rattle.wat_spell_laws.specs.Derived.{sign, kind_of_symbol, token_lexeme, token_lexemes}
+use Rattle.wat_spell_laws.specs.Derived.{sign, kind_of_symbol, name_lexeme, number_lexeme, token_lexemes}
 use Rattle.wat_spell_laws.proofs.Lifts.{lexemes_append, down_to}
 use Rattle.wat_spell_laws.proofs.Derives.{spelled_derives, named, column_derives}
-use Rattle.wat_spell_laws.proofs.Fits.{Stands, stands_append, fitting_stands}
+use Rattle.wat_spell_laws.proofs.Parsable.{Stands, stands_append, parsable_stands}
 use Rattle.wat_spell_laws.proofs.Levels.{AreSmall, parts, is_some_name, within_parentheses, behind_word, column_shape, expression_low, placed_low, small_number, is_small}
 
 -- These tokens are derived, give the tree, and may stand in a text.
@@ -48,19 +48,22 @@ name_of n = name n ∷ []
 pub name_again : (d : ℕ) → Respells d g.name name_of
 name_again d ts n (l, q, kind, there) small =
     let f : is_name n ≡ true = is_some_name l.text n there in
-    ((token_lexeme (name n), refl, refl, named n f), ap (λ b. b && true) f)
+    ((name_lexeme n, refl, refl, named n f), ap (λ b. b && true) f)
 
-number_again_at : (d : ℕ) (l : Lexeme) (n : ℤ) (o : Option ℕ) → l.number ≡ o → option_map pos o ≡ Some n → is_small l ≡ true → IsDerived d g.number n (integer n)
+abbrev pub number_of : ℤ → List Token
+number_of n = integer n ∷ []
+
+number_again_at : (d : ℕ) (l : Lexeme) (n : ℤ) (o : Option ℕ) → l.number ≡ o → option_map pos o ≡ Some n → is_small l ≡ true → IsDerived d g.number n (number_of n)
 number_again_at d l n None p q small = cc
 number_again_at d l n (Some m) p q small =
     let same : pos m ≡ n = cc in
     let low : nat_lt m 9223372036854775808 ≡ true = ap small_number (sym p) ∙ small in
-    subst (λ (z : ℤ). IsDerived d g.number z (integer z)) same ((token_lexeme (number m), refl, refl, refl), ap (λ b. b && true) low)
+    subst (λ (z : ℤ). IsDerived d g.number z (number_of z)) same ((number_lexeme m, refl, refl, refl), ap (λ b. b && true) low)
 
 pub small_one : (ts : List Lexeme) (l : Lexeme) → ts ≡ l ∷ [] → AreSmall ts → is_small l ≡ true
 small_one ts l q small = (and_parts (is_small l) true (subst (λ (z : List Lexeme). AreSmall z) q small)).0
 
-pub number_again : (d : ℕ) → Respells d g.number integer
+pub number_again : (d : ℕ) → Respells d g.number number_of
 number_again d ts n (l, q, kind, there) small = number_again_at d l n l.number refl there (small_one ts l q small)
 
 -- ---- expressions
@@ -69,21 +72,21 @@ pub expression_again : (d : ℕ) → Respells d g.expression expression
 expression_again d ts x there small =
     let low = expression_low d ts x there small in
     let levels : (spelled x).levels ≤ d = omega (arith, low.levels, placed_low 0 (spelled x)) in
-    (down_to (spelled x).rank 0 d (token_lexemes (expression x)) x (omega arith) (spelled_derives x low.fit d levels), fitting_stands x low.fit)
+    (down_to (spelled x).rank 0 d (token_lexemes (expression x)) x (omega arith) (spelled_derives x low.fit d levels), parsable_stands x low.fit)
 
 pub column_again : (d : ℕ) → Respells d g.column expression
 column_again d ts x there small =
     let c = column_shape d ts x there in
     let tokens : expression (e.Named c.table c.column) ≡ column c.table c.column = ap (λ (y : Spelling). y.tokens) (spelled_named c.table c.column) in
-    let fit = fits_named_column c.table c.column c.fit in
+    let fit = parsable_named_column c.table c.column c.fit in
     subst (λ (z : Expr). IsDerived d g.column z (expression z)) (sym c.is)
     (subst (λ (us : List Token). IsDerived d g.column (e.Named c.table c.column) us) (sym tokens) (
       column_derives d c.table c.column c.fit,
       subst (λ (us : List Token). Stands us) tokens fit,
     ))
   where
-    fits_named_column : (table : Option (List ℕ)) (n : List ℕ) → (Rattle.wat_spell_laws.specs.Derived.fits_table table && is_name n) ≡ true → Stands (expression (e.Named table n))
-    fits_named_column table n f = fitting_stands (e.Named table n) (Rattle.wat_spell_laws.proofs.Fits.fits_named table n ∙ f)
+    parsable_named_column : (table : Option (List ℕ)) (n : List ℕ) → (Rattle.wat_spell_laws.specs.Derived.is_parsable_table table && is_name n) ≡ true → Stands (expression (e.Named table n))
+    parsable_named_column table n f = parsable_stands (e.Named table n) (Rattle.wat_spell_laws.proofs.Parsable.parsable_named table n ∙ f)
 
 -- ---- words and parts
 
@@ -207,12 +210,12 @@ module _ {A : Type 0} (d : ℕ) (p : Sql A) (f : A → List Token) (r : Respells
         stands_append (comma ∷ f x) (flat_map (λ y. comma ∷ f y) xs) again.1 rest.1,
       )
 
-  pub list_again : Respells d (g.list p) (listed f)
+  pub list_again : Respells d (g.list p) (with_commas f)
   list_again ts xs ((x, more), (us, vs, split, there, behind), is) small =
       let both = parts ts us vs split small in
       let again = r us x there both.0 in
       let rest = more_again vs more behind both.1 in
-      subst (λ (ys : List A). IsDerived d (g.list p) ys (listed f ys)) (sym is) (
+      subst (λ (ys : List A). IsDerived d (g.list p) ys (with_commas f ys)) (sym is) (
         ((x, more), (token_lexemes (f x), token_lexemes (flat_map (λ y. comma ∷ f y) more), lexemes_append (f x) (flat_map (λ y. comma ∷ f y) more), again.0, rest.0), refl),
         stands_append (f x) (flat_map (λ y. comma ∷ f y) more) again.1 rest.1,
       )
@@ -221,7 +224,7 @@ module _ {A : Type 0} (d : ℕ) (p : Sql A) (f : A → List Token) (r : Respells
   pub by_again : (v : Keyword) → Respells d (or (g.after (kind_of_word v) (g.after k.By (g.list p))) (empty [])) (by v f)
   by_again v ts [] there small = (inr (refl, refl), refl)
   by_again v ts (x ∷ xs) (inl there) small =
-      let again = after_again d v (g.after k.By (g.list p)) (λ ys. word Rattle.wat_word.specs.declared.keyword.Keyword.TheVariants.By ∷ listed f ys)
-      (after_again d Rattle.wat_word.specs.declared.keyword.Keyword.TheVariants.By (g.list p) (listed f) list_again) ts (x ∷ xs) there small in
+      let again = after_again d v (g.after k.By (g.list p)) (λ ys. word Rattle.wat_word.specs.declared.keyword.Keyword.TheVariants.By ∷ with_commas f ys)
+      (after_again d Rattle.wat_word.specs.declared.keyword.Keyword.TheVariants.By (g.list p) (with_commas f) list_again) ts (x ∷ xs) there small in
       (inl again.0, again.1)
   by_again v ts (x ∷ xs) (inr there) small = let z : x ∷ xs ≡ [] = there.1 in cc

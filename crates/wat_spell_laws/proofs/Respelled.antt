@@ -26,15 +26,15 @@ use Rattle.wat_syntax.specs.Sql.{Sql, sql, ColumnRules, not_null, primary_key, n
 use Rattle.wat_syntax.specs.Sql.{source_of, query_of, order_item as order_item_of, column_element, set_item_of, direction, order, alias, select_items, filter, grouping, having, ordering, query, switch, isolation_level, column_rule, defined_column, key_element, create_table, create_index, create, index_column, drop_table, insert_source, insert_columns, insert, set_item, update, delete, commit, checkpoint, rollback, savepoint, release, set_level, set_blocking, set_option}
 use Rattle.wat_spell.specs.declared.symbol.Symbol.TheVariants as s
 use Rattle.wat_spell.specs.Tokens.{Token, word, number, symbol}
-use Rattle.wat_spell.specs.Spelling.{integer, tokens_if, listed, by, expression}
+use Rattle.wat_spell.specs.Spelling.{tokens_if, with_commas, by, expression}
 use Rattle.wat_spell.specs.Statements as spec
 use Rattle.wat_spell.specs.Statements.{statement_tokens, spelled_text, element_tokens, type_tokens, column_rules}
-use Rattle.wat_spell_laws.specs.Derived.{sign, token_lexeme, token_lexemes}
+use Rattle.wat_spell_laws.specs.Derived.{sign, number_lexeme, token_lexemes}
 use Rattle.wat_spell_laws.proofs.Lifts.{lexemes_append}
-use Rattle.wat_spell_laws.proofs.Fits.{Stands, stands_append}
+use Rattle.wat_spell_laws.proofs.Parsable.{Stands, stands_append}
 use Rattle.wat_spell_laws.proofs.Levels.{AreSmall, parts, behind_word, small_number, is_small}
 use Rattle.wat_spell_laws.proofs.Tokens.{read_back}
-use Rattle.wat_spell_laws.proofs.Parts.{IsDerived, Respells, Behind, respelled_as, from_nothing, name_of, name_again, number_again, small_one, expression_again, column_again, behind_again, after_again, equals_again, after_equals_again, parentheses_again, pair_again, map_behind, map_again, or_again, or_behind, if_some, maybe_again, optional_again, written_again, list_again, by_again}
+use Rattle.wat_spell_laws.proofs.Parts.{IsDerived, Respells, Behind, respelled_as, from_nothing, name_of, number_of, name_again, number_again, small_one, expression_again, column_again, behind_again, after_again, equals_again, after_equals_again, parentheses_again, pair_again, map_behind, map_again, or_again, or_behind, if_some, maybe_again, optional_again, written_again, list_again, by_again}
 
 -- ---- queries
 
@@ -64,7 +64,7 @@ direction_again d ts false there small = (inr (inr (refl, refl)), refl)
 order_by_again : (d : ℕ) → Respells d g.order_by spec.order_by
 unfolding g.order_by
 order_by_again d = or_again d (map_phrase order_by.Column g.column) (map_phrase order_by.Position g.number) spec.order_by
-    (map_again d g.column order_by.Column expression spec.order_by (λ x. refl) (column_again d)) (map_again d g.number order_by.Position integer spec.order_by (λ n. refl) (number_again d))
+    (map_again d g.column order_by.Column expression spec.order_by (λ x. refl) (column_again d)) (map_again d g.number order_by.Position number_of spec.order_by (λ n. refl) (number_again d))
 
 order_again : (d : ℕ) → Respells d order spec.order_item
 unfolding order
@@ -96,13 +96,13 @@ select_items_again : (d : ℕ) → Respells d select_items spec.select_items
 unfolding select_items
 select_items_again d ts x (inl there) small = subst (λ (z : SelectItems). IsDerived d (or (g.sign k.Star shown.Star) (map_phrase shown.List (g.list g.expression))) z (spec.select_items z)) (sym there.2) (inl (tt, (sign k.Star, refl, refl, refl), refl), refl)
 select_items_again d ts x (inr there) small =
-    let again = map_again d (g.list g.expression) shown.List (listed expression) spec.select_items (λ xs. refl) (list_again d g.expression expression (expression_again d)) ts x there small in
+    let again = map_again d (g.list g.expression) shown.List (with_commas expression) spec.select_items (λ xs. refl) (list_again d g.expression expression (expression_again d)) ts x there small in
     (inr again.0, again.1)
 
 -- a query behind its first word
 abbrev rest_of : Query → List Token
 rest_of q =
-    tokens_if q.distinct (word w.Distinct ∷ []) ++ (spec.select_items q.items ++ word w.From ∷ (listed spec.source_tokens q.sources
+    tokens_if q.distinct (word w.Distinct ∷ []) ++ (spec.select_items q.items ++ word w.From ∷ (with_commas spec.source_tokens q.sources
     ++ (spec.condition w.Where q.filter ++ (by w.Group expression q.group ++ (spec.condition w.Having q.having ++ by w.Order spec.order_item q.order)))))
 
 query_again : (d : ℕ) → Respells d query spec.query
@@ -112,25 +112,25 @@ query_again d =
     let third = pair_again d grouping (seq having ordering) (by w.Group expression) (λ x. spec.condition w.Having x.0 ++ by w.Order spec.order_item x.1) (grouping_again d) last in
     let second = pair_again d filter (seq grouping (seq having ordering)) (spec.condition w.Where)
     (λ x. by w.Group expression x.0 ++ (spec.condition w.Having x.1.0 ++ by w.Order spec.order_item x.1.1)) (filter_again d) third in
-    let first = pair_again d (g.list g.source) (seq filter (seq grouping (seq having ordering))) (listed spec.source_tokens)
+    let first = pair_again d (g.list g.source) (seq filter (seq grouping (seq having ordering))) (with_commas spec.source_tokens)
     (λ x. spec.condition w.Where x.0 ++ (by w.Group expression x.1.0 ++ (spec.condition w.Having x.1.1.0 ++ by w.Order spec.order_item x.1.1.1)))
     (list_again d g.source spec.source_tokens (source_again d)) second in
     let from = after_again d w.From (seq (g.list g.source) (seq filter (seq grouping (seq having ordering))))
-    (λ x. listed spec.source_tokens x.0 ++ (spec.condition w.Where x.1.0 ++ (by w.Group expression x.1.1.0 ++ (spec.condition w.Having x.1.1.1.0 ++ by w.Order spec.order_item x.1.1.1.1)))) first in
+    (λ x. with_commas spec.source_tokens x.0 ++ (spec.condition w.Where x.1.0 ++ (by w.Group expression x.1.1.0 ++ (spec.condition w.Having x.1.1.1.0 ++ by w.Order spec.order_item x.1.1.1.1)))) first in
     let items = pair_again d select_items (g.after k.From (seq (g.list g.source) (seq filter (seq grouping (seq having ordering))))) spec.select_items
-    (λ x. word w.From ∷ (listed spec.source_tokens x.0 ++ (spec.condition w.Where x.1.0 ++ (by w.Group expression x.1.1.0 ++ (spec.condition w.Having x.1.1.1.0 ++ by w.Order spec.order_item x.1.1.1.1)))))
+    (λ x. word w.From ∷ (with_commas spec.source_tokens x.0 ++ (spec.condition w.Where x.1.0 ++ (by w.Group expression x.1.1.0 ++ (spec.condition w.Having x.1.1.1.0 ++ by w.Order spec.order_item x.1.1.1.1)))))
     (select_items_again d) from in
     let all = pair_again d (g.optional k.Distinct) (seq select_items (g.after k.From (seq (g.list g.source) (seq filter (seq grouping (seq having ordering))))))
     (λ b. tokens_if b (word w.Distinct ∷ []))
-    (λ x. spec.select_items x.0 ++ word w.From ∷ (listed spec.source_tokens x.1.0 ++ (spec.condition w.Where x.1.1.0 ++ (by w.Group expression x.1.1.1.0 ++ (spec.condition w.Having x.1.1.1.1.0 ++ by w.Order spec.order_item x.1.1.1.1.1)))))
+    (λ x. spec.select_items x.0 ++ word w.From ∷ (with_commas spec.source_tokens x.1.0 ++ (spec.condition w.Where x.1.1.0 ++ (by w.Group expression x.1.1.1.0 ++ (spec.condition w.Having x.1.1.1.1.0 ++ by w.Order spec.order_item x.1.1.1.1.1)))))
     (optional_again d w.Distinct) items in
     after_again d w.Select
-    (map_phrase (λ x. query_of x.0 x.1.0 x.1.1.0 x.1.1.1.0 x.1.1.1.1.0 x.1.1.1.1.1.0 x.1.1.1.1.1.1)
+    (map_phrase query_of
     (seq (g.optional k.Distinct) (seq select_items (g.after k.From (seq (g.list g.source) (seq filter (seq grouping (seq having ordering))))))))
     rest_of
     (map_again d (seq (g.optional k.Distinct) (seq select_items (g.after k.From (seq (g.list g.source) (seq filter (seq grouping (seq having ordering)))))))
-    (λ x. query_of x.0 x.1.0 x.1.1.0 x.1.1.1.0 x.1.1.1.1.0 x.1.1.1.1.1.0 x.1.1.1.1.1.1)
-    (λ x. tokens_if x.0 (word w.Distinct ∷ []) ++ (spec.select_items x.1.0 ++ word w.From ∷ (listed spec.source_tokens x.1.1.0
+    query_of
+    (λ x. tokens_if x.0 (word w.Distinct ∷ []) ++ (spec.select_items x.1.0 ++ word w.From ∷ (with_commas spec.source_tokens x.1.1.0
     ++ (spec.condition w.Where x.1.1.1.0 ++ (by w.Group expression x.1.1.1.1.0 ++ (spec.condition w.Having x.1.1.1.1.1.0 ++ by w.Order spec.order_item x.1.1.1.1.1.1))))))
     rest_of (λ x. refl) all)
 
@@ -141,23 +141,23 @@ unfolding g.type_name
 type_again d ts x (inl there) small = subst (λ (z : TypeName). IsDerived d g.type_name z (type_tokens z)) (sym there.2) (inl (tt, (sign k.Integer, refl, refl, refl), refl), refl)
 type_again d ts x (inr (inl there)) small = subst (λ (z : TypeName). IsDerived d g.type_name z (type_tokens z)) (sym there.2) (inl (tt, (sign k.Integer, refl, refl, refl), refl), refl)
 type_again d ts x (inr (inr there)) small =
-    let sized = parentheses_again d s.OpenTight g.number integer refl (number_again d) in
+    let sized = parentheses_again d s.OpenTight g.number number_of refl (number_again d) in
     let char = behind_again d w.Char (map_phrase type_name.Char (g.in_parentheses g.number)) type_tokens []
-    (map_behind d (g.in_parentheses g.number) type_name.Char (λ n. symbol s.OpenTight ∷ (integer n ++ symbol s.Close ∷ [])) type_tokens (word w.Char ∷ []) (λ n. refl) sized) in
+    (map_behind d (g.in_parentheses g.number) type_name.Char (λ n. symbol s.OpenTight ∷ (number_of n ++ symbol s.Close ∷ [])) type_tokens (word w.Char ∷ []) (λ n. refl) sized) in
     let varchar = behind_again d w.Varchar (map_phrase type_name.Varchar (g.in_parentheses g.number)) type_tokens []
-    (map_behind d (g.in_parentheses g.number) type_name.Varchar (λ n. symbol s.OpenTight ∷ (integer n ++ symbol s.Close ∷ [])) type_tokens (word w.Varchar ∷ []) (λ n. refl) sized) in
+    (map_behind d (g.in_parentheses g.number) type_name.Varchar (λ n. symbol s.OpenTight ∷ (number_of n ++ symbol s.Close ∷ [])) type_tokens (word w.Varchar ∷ []) (λ n. refl) sized) in
     let again = from_nothing d (or (g.after k.Char (map_phrase type_name.Char (g.in_parentheses g.number))) (g.after k.Varchar (map_phrase type_name.Varchar (g.in_parentheses g.number)))) type_tokens
     (or_behind d (g.after k.Char (map_phrase type_name.Char (g.in_parentheses g.number))) (g.after k.Varchar (map_phrase type_name.Varchar (g.in_parentheses g.number))) type_tokens [] char varchar) ts x there small in
     (inr (inr again.0), again.1)
 
 -- rules that make a column so
-abbrev rules_of : Bool → Bool → List (ColumnRules → ColumnRules)
+abbrev pub rules_of : Bool → Bool → List (ColumnRules → ColumnRules)
 rules_of true true = primary_key ∷ []
 rules_of true false = []
 rules_of false true = not_null ∷ primary_key ∷ []
 rules_of false false = not_null ∷ []
 
-made_by : (n key : Bool) → fold ruled no_rules (rules_of n key) ≡ (let r : ColumnRules = record { nullable = n; key = key } in r)
+pub made_by : (n key : Bool) → fold ruled no_rules (rules_of n key) ≡ (let r : ColumnRules = record { nullable = n; key = key } in r)
 made_by true true = refl
 made_by true false = refl
 made_by false true = refl
@@ -171,13 +171,13 @@ key_rule : (d : ℕ) → DerivesWithin sql d column_rule (sign k.Primary ∷ sig
 unfolding column_rule
 key_rule d = inr (inr ((tt, primary_key), (sign k.Primary ∷ [], sign k.Key ∷ [], refl, (sign k.Primary, refl, refl, refl), (tt, (sign k.Key, refl, refl, refl), refl)), refl))
 
-rules_derive : (d : ℕ) (n key : Bool) → DerivesWithin sql d (many column_rule) (token_lexemes (column_rules n key)) (rules_of n key)
+pub rules_derive : (d : ℕ) (n key : Bool) → DerivesWithin sql d (many column_rule) (token_lexemes (column_rules n key)) (rules_of n key)
 rules_derive d true true = (sign k.Primary ∷ sign k.Key ∷ [], [], refl, key_rule d, refl)
 rules_derive d true false = refl
 rules_derive d false true = (sign k.Not ∷ sign k.Null ∷ [], sign k.Primary ∷ sign k.Key ∷ [], refl, null_rule d, (sign k.Primary ∷ sign k.Key ∷ [], [], refl, key_rule d, refl))
 rules_derive d false false = (sign k.Not ∷ sign k.Null ∷ [], [], refl, null_rule d, refl)
 
-rules_stand : (n key : Bool) → Stands (column_rules n key)
+pub rules_stand : (n key : Bool) → Stands (column_rules n key)
 rules_stand true true = refl
 rules_stand true false = refl
 rules_stand false true = refl
@@ -210,8 +210,8 @@ element_again : (d : ℕ) → Respells d g.element element_tokens
 unfolding g.element key_element
 element_again d ts x (inl there) small = let again = defined_again d ts x there small in (inl again.0, again.1)
 element_again d ts x (inr there) small =
-    let names = parentheses_again d s.Open (g.list g.name) (listed name_of) refl (list_again d g.name name_of (name_again d)) in
-    let key = map_behind d (g.in_parentheses (g.list g.name)) element.Key (λ ns. symbol s.Open ∷ (listed name_of ns ++ symbol s.Close ∷ [])) element_tokens (word w.Primary ∷ word w.Key ∷ []) (λ ns. refl) names in
+    let names = parentheses_again d s.Open (g.list g.name) (with_commas name_of) refl (list_again d g.name name_of (name_again d)) in
+    let key = map_behind d (g.in_parentheses (g.list g.name)) element.Key (λ ns. symbol s.Open ∷ (with_commas name_of ns ++ symbol s.Close ∷ [])) element_tokens (word w.Primary ∷ word w.Key ∷ []) (λ ns. refl) names in
     let again = from_nothing d key_element element_tokens
     (behind_again d w.Primary (g.after k.Key (map_phrase element.Key (g.in_parentheses (g.list g.name)))) element_tokens []
     (behind_again d w.Key (map_phrase element.Key (g.in_parentheses (g.list g.name))) element_tokens (word w.Primary ∷ []) key)) ts x there small in
@@ -220,11 +220,11 @@ element_again d ts x (inr there) small =
 create_table_again : (d : ℕ) → Behind d create_table statement_tokens (word w.Create ∷ [])
 unfolding create_table
 create_table_again d =
-    let elements = parentheses_again d s.Open (g.list g.element) (listed element_tokens) refl (list_again d g.element element_tokens (element_again d)) in
+    let elements = parentheses_again d s.Open (g.list g.element) (with_commas element_tokens) refl (list_again d g.element element_tokens (element_again d)) in
     behind_again d w.Table (map_phrase (λ x. statement.CreateTable x.0 x.1) (seq g.name (g.in_parentheses (g.list g.element)))) statement_tokens (word w.Create ∷ [])
-    (map_behind d (seq g.name (g.in_parentheses (g.list g.element))) (λ x. statement.CreateTable x.0 x.1) (λ x. name_of x.0 ++ symbol s.Open ∷ (listed element_tokens x.1 ++ symbol s.Close ∷ []))
+    (map_behind d (seq g.name (g.in_parentheses (g.list g.element))) (λ x. statement.CreateTable x.0 x.1) (λ x. name_of x.0 ++ symbol s.Open ∷ (with_commas element_tokens x.1 ++ symbol s.Close ∷ []))
     statement_tokens (word w.Create ∷ word w.Table ∷ []) (λ x. refl)
-    (pair_again d g.name (g.in_parentheses (g.list g.element)) name_of (λ xs. symbol s.Open ∷ (listed element_tokens xs ++ symbol s.Close ∷ [])) (name_again d) elements))
+    (pair_again d g.name (g.in_parentheses (g.list g.element)) name_of (λ xs. symbol s.Open ∷ (with_commas element_tokens xs ++ symbol s.Close ∷ [])) (name_again d) elements))
 
 index_column_again : (d : ℕ) → Respells d index_column name_of
 unfolding index_column
@@ -235,13 +235,13 @@ index_column_again d ts n (x, (us, vs, split, there, asc), is) small =
 create_index_again : (d : ℕ) → Behind d create_index statement_tokens (word w.Create ∷ [])
 unfolding create_index
 create_index_again d =
-    let columns = parentheses_again d s.Open (g.list index_column) (listed name_of) refl (list_again d index_column name_of (index_column_again d)) in
-    let table = pair_again d g.name (g.in_parentheses (g.list index_column)) name_of (λ xs. symbol s.Open ∷ (listed name_of xs ++ symbol s.Close ∷ [])) (name_again d) columns in
-    let on = after_again d w.On (seq g.name (g.in_parentheses (g.list index_column))) (λ x. name_of x.0 ++ symbol s.Open ∷ (listed name_of x.1 ++ symbol s.Close ∷ [])) table in
+    let columns = parentheses_again d s.Open (g.list index_column) (with_commas name_of) refl (list_again d index_column name_of (index_column_again d)) in
+    let table = pair_again d g.name (g.in_parentheses (g.list index_column)) name_of (λ xs. symbol s.Open ∷ (with_commas name_of xs ++ symbol s.Close ∷ [])) (name_again d) columns in
+    let on = after_again d w.On (seq g.name (g.in_parentheses (g.list index_column))) (λ x. name_of x.0 ++ symbol s.Open ∷ (with_commas name_of x.1 ++ symbol s.Close ∷ [])) table in
     behind_again d w.Index (map_phrase (λ x. statement.CreateIndex x.0 x.1.0 x.1.1) (seq g.name (g.after k.On (seq g.name (g.in_parentheses (g.list index_column)))))) statement_tokens (word w.Create ∷ [])
     (map_behind d (seq g.name (g.after k.On (seq g.name (g.in_parentheses (g.list index_column))))) (λ x. statement.CreateIndex x.0 x.1.0 x.1.1)
-    (λ x. name_of x.0 ++ word w.On ∷ (name_of x.1.0 ++ symbol s.Open ∷ (listed name_of x.1.1 ++ symbol s.Close ∷ []))) statement_tokens (word w.Create ∷ word w.Index ∷ []) (λ x. refl)
-    (pair_again d g.name (g.after k.On (seq g.name (g.in_parentheses (g.list index_column)))) name_of (λ x. word w.On ∷ (name_of x.0 ++ symbol s.Open ∷ (listed name_of x.1 ++ symbol s.Close ∷ []))) (name_again d) on))
+    (λ x. name_of x.0 ++ word w.On ∷ (name_of x.1.0 ++ symbol s.Open ∷ (with_commas name_of x.1.1 ++ symbol s.Close ∷ []))) statement_tokens (word w.Create ∷ word w.Index ∷ []) (λ x. refl)
+    (pair_again d g.name (g.after k.On (seq g.name (g.in_parentheses (g.list index_column)))) name_of (λ x. word w.On ∷ (name_of x.0 ++ symbol s.Open ∷ (with_commas name_of x.1 ++ symbol s.Close ∷ []))) (name_again d) on))
 
 create_again : (d : ℕ) → Behind d create statement_tokens []
 unfolding create
@@ -260,19 +260,19 @@ unfolding insert_source
 insert_source_again d = from_nothing d insert_source spec.insert_source
     (or_behind d (g.after k.Values (map_phrase source.Values (g.in_parentheses (g.list g.expression)))) (map_phrase source.Answer query) spec.insert_source []
     (behind_again d w.Values (map_phrase source.Values (g.in_parentheses (g.list g.expression))) spec.insert_source []
-    (map_behind d (g.in_parentheses (g.list g.expression)) source.Values (λ xs. symbol s.Open ∷ (listed expression xs ++ symbol s.Close ∷ [])) spec.insert_source (word w.Values ∷ []) (λ xs. refl)
-    (parentheses_again d s.Open (g.list g.expression) (listed expression) refl (list_again d g.expression expression (expression_again d)))))
+    (map_behind d (g.in_parentheses (g.list g.expression)) source.Values (λ xs. symbol s.Open ∷ (with_commas expression xs ++ symbol s.Close ∷ [])) spec.insert_source (word w.Values ∷ []) (λ xs. refl)
+    (parentheses_again d s.Open (g.list g.expression) (with_commas expression) refl (list_again d g.expression expression (expression_again d)))))
     (map_behind d query source.Answer spec.query spec.insert_source [] (λ q. refl) (query_again d)))
 
-columns_same : (o : Option (List (List ℕ))) → spec.insert_columns o ≡ if_some (λ ns. symbol s.Open ∷ (listed name_of ns ++ symbol s.Close ∷ [])) o
+columns_same : (o : Option (List (List ℕ))) → spec.insert_columns o ≡ if_some (λ ns. symbol s.Open ∷ (with_commas name_of ns ++ symbol s.Close ∷ [])) o
 columns_same None = refl
 columns_same (Some ns) = refl
 
 insert_columns_again : (d : ℕ) → Respells d insert_columns spec.insert_columns
 unfolding insert_columns
-insert_columns_again d = respelled_as d (g.maybe (g.in_parentheses (g.list g.name))) (if_some (λ ns. symbol s.Open ∷ (listed name_of ns ++ symbol s.Close ∷ []))) spec.insert_columns columns_same
-    (maybe_again d (g.in_parentheses (g.list g.name)) (λ ns. symbol s.Open ∷ (listed name_of ns ++ symbol s.Close ∷ []))
-    (parentheses_again d s.Open (g.list g.name) (listed name_of) refl (list_again d g.name name_of (name_again d))))
+insert_columns_again d = respelled_as d (g.maybe (g.in_parentheses (g.list g.name))) (if_some (λ ns. symbol s.Open ∷ (with_commas name_of ns ++ symbol s.Close ∷ []))) spec.insert_columns columns_same
+    (maybe_again d (g.in_parentheses (g.list g.name)) (λ ns. symbol s.Open ∷ (with_commas name_of ns ++ symbol s.Close ∷ []))
+    (parentheses_again d s.Open (g.list g.name) (with_commas name_of) refl (list_again d g.name name_of (name_again d))))
 
 insert_again : (d : ℕ) → Behind d insert statement_tokens []
 unfolding insert
@@ -290,12 +290,12 @@ set_item_again d = map_again d (seq g.name (g.after k.Equal g.expression)) (λ x
 update_again : (d : ℕ) → Behind d update statement_tokens []
 unfolding update
 update_again d =
-    let sets = pair_again d (g.list set_item) filter (listed spec.set_item) (spec.condition w.Where) (list_again d set_item spec.set_item (set_item_again d)) (filter_again d) in
-    let set = after_again d w.Set (seq (g.list set_item) filter) (λ x. listed spec.set_item x.0 ++ spec.condition w.Where x.1) sets in
+    let sets = pair_again d (g.list set_item) filter (with_commas spec.set_item) (spec.condition w.Where) (list_again d set_item spec.set_item (set_item_again d)) (filter_again d) in
+    let set = after_again d w.Set (seq (g.list set_item) filter) (λ x. with_commas spec.set_item x.0 ++ spec.condition w.Where x.1) sets in
     behind_again d w.Update (map_phrase (λ x. statement.Update x.0 x.1.0 x.1.1) (seq g.name (g.after k.Set (seq (g.list set_item) filter)))) statement_tokens []
-    (map_behind d (seq g.name (g.after k.Set (seq (g.list set_item) filter))) (λ x. statement.Update x.0 x.1.0 x.1.1) (λ x. name_of x.0 ++ word w.Set ∷ (listed spec.set_item x.1.0 ++ spec.condition w.Where x.1.1))
+    (map_behind d (seq g.name (g.after k.Set (seq (g.list set_item) filter))) (λ x. statement.Update x.0 x.1.0 x.1.1) (λ x. name_of x.0 ++ word w.Set ∷ (with_commas spec.set_item x.1.0 ++ spec.condition w.Where x.1.1))
     statement_tokens (word w.Update ∷ []) (λ x. refl)
-    (pair_again d g.name (g.after k.Set (seq (g.list set_item) filter)) name_of (λ x. word w.Set ∷ (listed spec.set_item x.0 ++ spec.condition w.Where x.1)) (name_again d) set))
+    (pair_again d g.name (g.after k.Set (seq (g.list set_item) filter)) name_of (λ x. word w.Set ∷ (with_commas spec.set_item x.0 ++ spec.condition w.Where x.1)) (name_again d) set))
 
 delete_again : (d : ℕ) → Behind d delete statement_tokens []
 unfolding delete
@@ -352,7 +352,7 @@ level_at d l n (Some m) p q small =
     decide true r f =
         let same : m ≡ n = cc in
         let low : nat_lt m (2 ^ 63) ≡ true = ap small_number (sym p) ∙ small in
-        subst (λ (z : ℕ). IsDerived d isolation_level z (level_of z)) same ((token_lexeme (number m), refl, refl, ap (λ (b : Bool). if b then Some m else None) f), ap (λ b. b && true) low)
+        subst (λ (z : ℕ). IsDerived d isolation_level z (level_of z)) same ((number_lexeme m, refl, refl, ap (λ (b : Bool). if b then Some m else None) f), ap (λ b. b && true) low)
     decide false r f = cc
 
 level_again : (d : ℕ) → Respells d isolation_level level_of
@@ -466,7 +466,7 @@ small_if : (b : Bool) (o : Option ℕ) → small_number o ≡ true → small_num
 small_if true o h = h
 small_if false o h = refl
 
-text_small : (text : List ℕ) (ts : List Place) → AreSmall (lexemes_of text ts)
+pub text_small : (text : List ℕ) (ts : List Place) → AreSmall (lexemes_of text ts)
 text_small text [] = refl
 text_small text (t ∷ ts) =
     let one : is_small (lexeme_of text t) ≡ true = small_if (same_kind (kind_of t.kind (token_bytes text t)) k.Number) (number_value (token_bytes text t)) (small_value (token_bytes text t)) in

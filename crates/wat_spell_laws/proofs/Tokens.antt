@@ -17,16 +17,16 @@ use Rattle.wat_lex.specs.declared.token.TokenKind.TheVariants as kind
 use Rattle.wat_lex.specs.declared.token.Token.{Token as Place}
 use Rattle.wat_lex.specs.Tokens.{is_blank, is_pair, piece, tokens_from, tokens_of}
 use Rattle.wat_lex.specs.Rules.{doubled}
+use Rattle.wat_lex.proofs.Fronts.{piece_of, piece_space, word_piece, are_digits, digits_piece, quoted_piece, pair_piece, single_piece}
 use Rattle.wat_lex.specs.Values.{lower_case, number_value, unquoted, string_text}
 use Rattle.wat_lex.proofs.Pieces.{tokens_from-step}
 use Rattle.wat_syntax.specs.declared.kind.Kind.TheVariants as k
 use Rattle.wat_syntax.specs.Lexeme.{Lexeme, kind_of_word, word_kind, kind_of, lexeme, lexeme_of, lexemes_of}
 use Rattle.wat_spell.specs.declared.symbol.Symbol.{Symbol}
 use Rattle.wat_spell.specs.declared.symbol.Symbol.TheVariants as s
-use Rattle.wat_spell.specs.Tokens.{Token, word, name, number, quoted, symbol, symbol_text, token_text, is_tight_left, is_tight_right, is_tight_before, is_tight_behind, gap, written}
-use Rattle.wat_spell_laws.specs.Derived.{sign, kind_of_symbol, token_lexeme, token_lexemes}
+use Rattle.wat_spell.specs.Tokens.{Token, word, name, number, negative, quoted, symbol, symbol_text, token_text, is_tight_left, is_tight_right, is_tight_before, is_tight_behind, gap, written}
+use Rattle.wat_spell_laws.specs.Derived.{sign, kind_of_symbol, name_lexeme, number_lexeme, quoted_lexeme, lexemes_of_token, token_lexemes}
 use Rattle.wat_spell_laws.specs.Read.{can_stand, IsReadBack}
-use Rattle.wat_spell_laws.proofs.Pieces.{piece_of, piece_space, word_piece, are_digits, digits_piece, quoted_piece, pair_piece, single_piece}
 
 -- what may stand right behind any token: the end, a space, or a symbol that is tight there
 abbrev is_end : ℕ → Bool
@@ -47,11 +47,21 @@ abbrev kind_at : Token → TokenKind
 kind_at (word v) = kind.Word
 kind_at (name n) = kind.Word
 kind_at (number n) = kind.Number
+kind_at (negative n) = kind.Number
 kind_at (quoted t) = kind.Quoted
 kind_at (symbol x) = kind.Symbol
 
+-- what the text has of it last: of a number below zero its digits
+abbrev last : Token → Token
+last (word v) = word v
+last (name n) = name n
+last (number n) = number n
+last (negative n) = number n
+last (quoted t) = quoted t
+last (symbol x) = symbol x
+
 IsCut : Token → List ℕ → Type 0
-IsCut t rest = piece_of (kind_at t) (length (token_text t)) ≡ piece (token_text t ++ rest)
+IsCut t rest = piece_of (kind_at t) (length (token_text (last t))) ≡ piece (token_text (last t) ++ rest)
 
 no_pair : (b c : ℕ) → is_end c ≡ true → is_pair b c ≡ false
 no_pair b c e = grind (arith, nat_tests)
@@ -115,6 +125,7 @@ unfolding IsCut
 cut_at (word v) rest c e = word_piece (spelling v) rest (spelled_words v) (end_of_word (get_or rest 0 0) e)
 cut_at (name n) rest c e = word_piece n rest (name_parts n c).0 (end_of_word (get_or rest 0 0) e)
 cut_at (number n) rest c e = digits_piece n rest (ltb-true n 9223372036854775808 c) (end_of_word (get_or rest 0 0) e)
+cut_at (negative n) rest c e = digits_piece n rest (ltb-true n 9223372036854775808 c) (end_of_word (get_or rest 0 0) e)
 cut_at (quoted t) rest c e = quoted_piece t rest (end_of_quote (get_or rest 0 0) e)
 cut_at (symbol x) rest c e = any_symbol x rest e
 
@@ -122,6 +133,7 @@ tight_at : (t : Token) (rest : List ℕ) → is_tight_behind t ≡ true → IsCu
 tight_at (word v) rest e = cc
 tight_at (name n) rest e = cc
 tight_at (number n) rest e = cc
+tight_at (negative n) rest e = cc
 tight_at (quoted t) rest e = cc
 tight_at (symbol x) rest e = tight_symbol x rest e
 
@@ -173,6 +185,7 @@ begun (number n) c =
     let wide : n < 2 ^ 64 = omega (arith, ltb-true n 9223372036854775808 c) in
     let a = are_digits n wide in
     record { some = a.some; blank = digits_begun (digits n) a.some a.digit }
+begun (negative n) c = record { some = omega arith; blank = refl }
 begun (quoted t) c = record { some = omega arith; blank = refl }
 begun (symbol x) c = symbol_begun x
 
@@ -198,6 +211,7 @@ ends_before : (t : Token) (rest : List ℕ) → is_tight_before t ≡ true → i
 ends_before (word v) rest e = cc
 ends_before (name n) rest e = cc
 ends_before (number n) rest e = cc
+ends_before (negative n) rest e = cc
 ends_before (quoted t) rest e = cc
 ends_before (symbol x) rest e = tight_end x rest e
 
@@ -291,13 +305,10 @@ not_some : (o : Option Keyword) → not (is_some o) ≡ true → o ≡ None
 not_some None e = refl
 not_some (Some v) e = cc
 
-abbrev named : List ℕ → Lexeme
-named n = record { kind = k.Name; text = n; number = None }
-
-name_lexeme : (n : List ℕ) → is_name n ≡ true → lexeme (kind_of kind.Word n) n ≡ named n
-name_lexeme n e =
+name_read : (n : List ℕ) → is_name n ≡ true → lexeme (kind_of kind.Word n) n ≡ name_lexeme n
+name_read n e =
     let h = name_parts n e in
-    ap (λ (o : Option Keyword). lexeme (word_kind o) n) (not_some (keyword n) h.2) ∙ ap named (lower_same n h.1)
+    ap (λ (o : Option Keyword). lexeme (word_kind o) n) (not_some (keyword n) h.2) ∙ ap name_lexeme (lower_same n h.1)
 
 doubled_read : (b : ℕ) (z : List ℕ) (t : Bool) → (b == 39) ≡ t → unquoted false (doubled b ++ z) ≡ b ∷ unquoted false z
 doubled_read b z true p = ap (λ v. unquoted false (cond v (39 ∷ 39 ∷ []) (b ∷ []) ++ z)) p ∙ ap (λ (c : ℕ). c ∷ unquoted false z) (same b p)
@@ -312,29 +323,36 @@ text_read (b ∷ t) =
     ap (unquoted false) (append_assoc (doubled b) (flat_map doubled t) (39 ∷ []))
     ∙ doubled_read b (flat_map doubled t ++ 39 ∷ []) (b == 39) refl ∙ ap (λ (u : List ℕ). b ∷ u) (text_read t)
 
-abbrev text_of : List ℕ → Lexeme
-text_of t = record { kind = k.Quoted; text = t; number = None }
-
-quoted_lexeme : (t : List ℕ) → lexeme k.Quoted (39 ∷ (flat_map doubled t ++ 39 ∷ [])) ≡ text_of t
+quoted_read : (t : List ℕ) → lexeme k.Quoted (39 ∷ (flat_map doubled t ++ 39 ∷ [])) ≡ quoted_lexeme t
 unfolding string_text
-quoted_lexeme t = ap text_of (text_read t)
+quoted_read t = ap quoted_lexeme (text_read t)
 
 abbrev number_of : Option ℕ → Lexeme
 number_of n = record { kind = k.Number; text = []; number = n }
 
-number_lexeme : (n : ℕ) → nat_lt n 9223372036854775808 ≡ true → lexeme k.Number (digits n) ≡ number_of (Some n)
+number_read : (n : ℕ) → nat_lt n 9223372036854775808 ≡ true → lexeme k.Number (digits n) ≡ number_of (Some n)
 unfolding number_value
-number_lexeme n c =
+number_read n c =
     let wide : n < 2 ^ 64 = omega (arith, ltb-true n 9223372036854775808 c) in
     let a = are_digits n wide in
     ap (λ (v : ℕ). number_of (cond (nat_lt v 9223372036854775808) (Some v) None)) a.value ∙ ap (λ t. number_of (cond t (Some n) None)) c
 
-gives : (t : Token) → can_stand t ≡ true → lexeme (kind_of (kind_at t) (token_text t)) (token_text t) ≡ token_lexeme t
-gives (word v) c = ap (λ (o : Option Keyword). lexeme (word_kind o) (spelling v)) (spelled_read v) ∙ word_sign v (spelling v)
-gives (name n) c = name_lexeme n c
-gives (number n) c = number_lexeme n c
-gives (quoted t) c = quoted_lexeme t
-gives (symbol x) c = symbol_sign x
+-- whether it is one token of the text too
+abbrev is_one : Token → Bool
+is_one (word v) = true
+is_one (name n) = true
+is_one (number n) = true
+is_one (negative n) = false
+is_one (quoted t) = true
+is_one (symbol x) = true
+
+gives : (t : Token) → is_one t ≡ true → can_stand t ≡ true → lexeme (kind_of (kind_at t) (token_text t)) (token_text t) ∷ [] ≡ lexemes_of_token t
+gives (word v) o c = ap (λ (x : Lexeme). x ∷ []) (ap (λ (o : Option Keyword). lexeme (word_kind o) (spelling v)) (spelled_read v) ∙ word_sign v (spelling v))
+gives (name n) o c = ap (λ (x : Lexeme). x ∷ []) (name_read n c)
+gives (number n) o c = ap (λ (x : Lexeme). x ∷ []) (number_read n c)
+gives (negative n) o c = cc
+gives (quoted t) o c = ap (λ (x : Lexeme). x ∷ []) (quoted_read t)
+gives (symbol x) o c = ap (λ (x : Lexeme). x ∷ []) (symbol_sign x)
 
 -- ---- one token, and those behind it
 
@@ -348,10 +366,14 @@ bytes_there p z rest n e =
     ∙ ap (take (length z)) (front_rest (p ++ (z ++ rest)) p (z ++ rest) refl)
     ∙ take-append_seam z rest
 
-front : (t : Token) (rest p whole : List ℕ) → can_stand t ≡ true → IsCut t rest → whole ≡ p ++ (token_text t ++ rest)
-    → lexemes_of whole (tokens_from 0 (length p) (token_text t ++ rest)) ≡ token_lexeme t ∷ lexemes_of whole (tokens_from 0 (length p + length (token_text t)) rest)
-unfolding IsCut
-front t rest p whole c h e =
+longer : (y y' : List ℕ) → length (y ++ y') ≡ length y + length y'
+longer [] y' = omega arith
+longer (x ∷ y) y' = omega (arith, longer y y')
+
+-- one token of the text
+front : (t : Token) (rest p whole : List ℕ) → is_one t ≡ true → can_stand t ≡ true → piece_of (kind_at t) (length (token_text t)) ≡ piece (token_text t ++ rest) → whole ≡ p ++ (token_text t ++ rest)
+    → lexemes_of whole (tokens_from 0 (length p) (token_text t ++ rest)) ≡ lexemes_of_token t ++ lexemes_of whole (tokens_from 0 (length p + length (token_text t)) rest)
+front t rest p whole o c h e =
     let z = token_text t in
     let some : 0 < length z = (begun t c).some in
     let all : 0 < length (z ++ rest) = omega (arith, longer z rest) in
@@ -359,18 +381,43 @@ front t rest p whole c h e =
     ∙ ap (λ (y : List ℕ). lexeme_of whole (place (kind_at t) (length p) (length z)) ∷ lexemes_of whole (tokens_from 0 (length p + length z) y)) (front_rest (z ++ rest) z rest refl)
     ∙ ap (λ (y : List ℕ). lexeme (kind_of (kind_at t) y) y ∷ lexemes_of whole (tokens_from 0 (length p + length z) rest))
     (ap (λ (y : List ℕ). take (length p + length z - length p) (drop (length p) y)) e ∙ bytes_there p z rest (length z) refl)
-    ∙ ap (λ (x : Lexeme). x ∷ lexemes_of whole (tokens_from 0 (length p + length z) rest)) (gives t c)
+    ∙ ap (λ (xs : List Lexeme). xs ++ lexemes_of whole (tokens_from 0 (length p + length z) rest)) (gives t o c)
+
+-- a minus right before a number
+minus_cut : (n : ℕ) (rest : List ℕ) → n < 9223372036854775808 → piece_of kind.Symbol 1 ≡ piece (45 ∷ (digits n ++ rest))
+minus_cut n rest h = single_piece 45 (digits n ++ rest) refl (no_pair_behind 45 (get_or (digits n ++ rest) 0 0) refl refl refl refl) (apart (get_or (digits n ++ rest) 0 0) digit) refl
   where
-    longer : (y y' : List ℕ) → length (y ++ y') ≡ length y + length y'
-    longer [] y' = omega arith
-    longer (x ∷ y) y' = omega (arith, longer y y')
+    first_digit : (z : List ℕ) → 0 < length z → list_all is_ascii_digit z ≡ true → is_ascii_digit (get_or (z ++ rest) 0 0) ≡ true
+    first_digit [] some e = absurd (omega arith)
+    first_digit (b ∷ z) some e = (and_parts (is_ascii_digit b) (list_all is_ascii_digit z) e).0
+
+    digit : is_ascii_digit (get_or (digits n ++ rest) 0 0) ≡ true
+    digit = let wide : n < 2 ^ 64 = omega arith in let a = are_digits n wide in first_digit (digits n) a.some a.digit
+
+    apart : (b : ℕ) → is_ascii_digit b ≡ true → (45 == 45 && b == 45) ≡ false
+    apart b e = grind (arith, nat_tests)
+
+-- the token at the front, and those behind it
+front_any : (t : Token) (rest p whole : List ℕ) → can_stand t ≡ true → IsCut t rest → whole ≡ p ++ (token_text t ++ rest)
+    → lexemes_of whole (tokens_from 0 (length p) (token_text t ++ rest)) ≡ lexemes_of_token t ++ lexemes_of whole (tokens_from 0 (length p + length (token_text t)) rest)
+unfolding IsCut
+front_any (word v) rest p whole c h e = front (word v) rest p whole refl c h e
+front_any (name n) rest p whole c h e = front (name n) rest p whole refl c h e
+front_any (number n) rest p whole c h e = front (number n) rest p whole refl c h e
+front_any (quoted t) rest p whole c h e = front (quoted t) rest p whole refl c h e
+front_any (symbol x) rest p whole c h e = front (symbol x) rest p whole refl c h e
+front_any (negative n) rest p whole c h e =
+    let small : n < 9223372036854775808 = ltb-true n 9223372036854775808 c in
+    let there : whole ≡ (p ++ 45 ∷ []) ++ (digits n ++ rest) = e ∙ sym (append_assoc p (45 ∷ []) (digits n ++ rest)) in
+    let one : length p + 1 ≡ length (p ++ 45 ∷ []) = sym (longer p (45 ∷ [])) in
+    let both : length (p ++ 45 ∷ []) + length (digits n) ≡ length p + length (45 ∷ digits n) = omega (arith, one) in
+    front (symbol s.Minus) (digits n ++ rest) p whole refl refl (minus_cut n rest small) e
+    ∙ ap (λ (j : ℕ). sign k.Minus ∷ lexemes_of whole (tokens_from 0 j (digits n ++ rest))) one
+    ∙ ap (λ (xs : List Lexeme). sign k.Minus ∷ xs) (front (number n) rest (p ++ 45 ∷ []) whole refl c h there)
+    ∙ ap (λ (j : ℕ). sign k.Minus ∷ number_lexeme n ∷ lexemes_of whole (tokens_from 0 j rest)) both
 
 space : (at : ℕ) (z : List ℕ) → is_blank (get_or z 0 0) ≡ false → tokens_from 0 at (32 ∷ z) ≡ tokens_from 0 (at + 1) z
 space at z h = tokens_from-step (32 ∷ z) at (None, 1) (omega arith) (piece_space z h) (omega arith)
-
-length_both : (y z : List ℕ) → length (y ++ z) ≡ length y + length z
-length_both [] z = omega arith
-length_both (x ∷ y) z = omega (arith, length_both y z)
 
 -- the first token stands at the front of the text
 abbrev behind : Token → List Token → List ℕ
@@ -409,7 +456,7 @@ passes : (v : Bool) (p z whole : List ℕ) (ts : List Token) → is_blank (get_o
     → whole ≡ p ++ (gap v ++ z) → lexemes_of whole (tokens_from 0 (length p) (gap v ++ z)) ≡ token_lexemes ts
 passes true p z whole ts b h e = h p e
 passes false p z whole ts b h e =
-    let n : length p + 1 ≡ length (p ++ 32 ∷ []) = sym (length_both p (32 ∷ [])) in
+    let n : length p + 1 ≡ length (p ++ 32 ∷ []) = sym (longer p (32 ∷ [])) in
     ap (lexemes_of whole) (space (length p) z b ∙ ap (λ (j : ℕ). tokens_from 0 j z) n) ∙ h (p ++ 32 ∷ []) (e ∙ sym (append_assoc p (32 ∷ []) z))
 
 seen : (ts : List Token) (p whole : List ℕ) → list_all can_stand ts ≡ true → whole ≡ p ++ written ts → lexemes_of whole (tokens_from 0 (length p) (written ts)) ≡ token_lexemes ts
@@ -418,7 +465,7 @@ seen (t ∷ []) p whole c e =
     let here = (and_parts (can_stand t) true c).0 in
     let split : token_text t ≡ token_text t ++ [] = sym (append-nil (token_text t)) in
     ap (λ (z : List ℕ). lexemes_of whole (tokens_from 0 (length p) z)) split
-    ∙ front t [] p whole here (cut_here t [] here) (e ∙ ap (λ (z : List ℕ). p ++ z) split)
+    ∙ front_any t [] p whole here (cut_here t [] here) (e ∙ ap (λ (z : List ℕ). p ++ z) split)
 seen (t ∷ u ∷ more) p whole c e =
     let both = and_parts (can_stand t) (list_all can_stand (u ∷ more)) c in
     let next = (and_parts (can_stand u) (list_all can_stand more) both.1).0 in
@@ -427,9 +474,9 @@ seen (t ∷ u ∷ more) p whole c e =
     let split = written_front t (u ∷ more) in
     let whole_is : whole ≡ p ++ (token_text t ++ rest) = e ∙ ap (λ (z : List ℕ). p ++ z) split in
     ap (λ (z : List ℕ). lexemes_of whole (tokens_from 0 (length p) z)) split
-    ∙ front t rest p whole both.0 (cut_here t (u ∷ more) both.0) whole_is
-    ∙ ap (λ (xs : List Lexeme). token_lexeme t ∷ xs)
-    (ap (λ (j : ℕ). lexemes_of whole (tokens_from 0 j rest)) (sym (length_both p (token_text t)))
+    ∙ front_any t rest p whole both.0 (cut_here t (u ∷ more) both.0) whole_is
+    ∙ ap (λ (xs : List Lexeme). lexemes_of_token t ++ xs)
+    (ap (λ (j : ℕ). lexemes_of whole (tokens_from 0 j rest)) (sym (longer p (token_text t)))
     ∙ passes v (p ++ token_text t) (written (u ∷ more)) whole (u ∷ more) (first_blank u more next) (λ q f. seen (u ∷ more) q whole both.1 f) (whole_is ∙ sym (append_assoc p (token_text t) rest)))
 
 pub read_back : (ts : List Token) → IsReadBack ts

@@ -7,7 +7,8 @@ use Rattle.wat_lex.specs.Tokens.{tokens_of}
 use Rattle.wat_lex.specs.Rules.{IsCut, nothing, skips, reads, fails}
 use Rattle.wat_lex.proofs.Cuts.{tokens_of-cut}
 use Rattle.wat_syntax.specs.Lexeme.{lexemes_of}
-use Rattle.wat_syntax.specs.Parsed.{parsed, parsed_tokens, tokens_within, next_from}
+use Rattle.wat_lex.specs.Parts.{tokens_within, next_from}
+use Rattle.wat_syntax.specs.Parsed.{parsed, parsed_tokens}
 use Rattle.wat_syntax.specs.Sql.{max_nesting, IsStatement}
 use Rattle.wat_syntax.proofs.Placed.{tree_exact}
 use Rattle.wat_spell.specs.Statements.{spelled_text}
@@ -46,11 +47,18 @@ tokens_within-whole : (text : List ℕ) → tokens_within text 0 (length text) �
 tokens_within-whole text =
     kept (length text) (tokens_of text) (by_same (0 + length text) (length text) (tokens_of text) (omega arith) (cut_ends (tokens_of-cut text)))
 
-pub parsed_back : (text : List ℕ) (from to : ℕ) (x : Statement) → parsed text from to ≡ Ok x → parsed (spelled_text x) 0 (length (spelled_text x)) ≡ Ok x
+-- what is derived from the tokens of a spelling is parsed
+pub spelled_parsed : (z x : Statement) → IsStatement (lexemes_of (spelled_text z) (tokens_of (spelled_text z))) x → parsed (spelled_text z) 0 (length (spelled_text z)) ≡ Ok x
 unfolding parsed
-parsed_back text from to x h =
-    let there : IsStatement (lexemes_of text (tokens_within text from to)) x = (tree_exact text (tokens_within text from to) (next_from to (length text) (tokens_of text)) x).0 h in
-    let z = spelled_text x in
-    let again : IsStatement (lexemes_of z (tokens_of z)) x = reads_back max_nesting text (tokens_within text from to) x there in
+spelled_parsed y x again =
+    let z = spelled_text y in
     let end = next_from (length z) (length z) (tokens_of z) in
     ap (λ (ts : List Token). parsed_tokens z ts end) (tokens_within-whole z) ∙ (tree_exact z (tokens_of z) end x).1 again
+
+-- what is parsed anywhere is derived from tokens of the text
+pub parsed_derived : (text : List ℕ) (from to : ℕ) (x : Statement) → parsed text from to ≡ Ok x → IsStatement (lexemes_of text (tokens_within text from to)) x
+unfolding parsed
+parsed_derived text from to x h = (tree_exact text (tokens_within text from to) (next_from to (length text) (tokens_of text)) x).0 h
+
+pub parsed_back : (text : List ℕ) (from to : ℕ) (x : Statement) → parsed text from to ≡ Ok x → parsed (spelled_text x) 0 (length (spelled_text x)) ≡ Ok x
+parsed_back text from to x h = spelled_parsed x x (reads_back max_nesting text (tokens_within text from to) x (parsed_derived text from to x h))

@@ -1,5 +1,6 @@
 -- What spells an expression, in the words of the grammar.
-use Rattle.std.specs.Prelude.{ℕ, zero, suc, pos, negsuc, ◌≤◌, ◌^◌, Bool, true, false, nat_lt, ◌&&◌, List, [], ◌∷◌, map, Option, Some, None}
+use Rattle.std.specs.Prelude.{ℕ, zero, suc, pos, negsuc, ◌≤◌, ◌^◌, Bool, true, false, nat_lt, ◌&&◌, List, [], ◌∷◌, Option, Some, None}
+use Rattle.std.specs.List.{flat_map}
 use Rattle.wat_word.specs.Words.{is_name}
 use Rattle.wat_value.specs.declared.value.Value.{Value}
 use Rattle.wat_value.specs.declared.value.Value.TheVariants as value
@@ -14,7 +15,7 @@ use Rattle.wat_syntax.specs.Lexeme.{Lexeme, kind_of_word}
 use Rattle.wat_syntax.specs.Sql.{Sql, sql, expression, conjunction, negation, predicate, sum, term, factor, primary}
 use Rattle.wat_spell.specs.declared.symbol.Symbol.{Symbol}
 use Rattle.wat_spell.specs.declared.symbol.Symbol.TheVariants as s
-use Rattle.wat_spell.specs.Tokens.{Token, word, name, number, quoted, symbol}
+use Rattle.wat_spell.specs.Tokens.{Token, word, name, number, negative, quoted, symbol}
 use Rattle.wat_spell.specs.Spelling.{Spelling}
 
 abbrev pub kind_of_symbol : Symbol → Kind
@@ -39,16 +40,26 @@ kind_of_symbol s.AtLeast = k.AtLeast
 abbrev pub sign : Kind → Lexeme
 sign kind = record { kind = kind; text = []; number = None }
 
--- a token of a spelling as the grammar sees it
-abbrev pub token_lexeme : Token → Lexeme
-token_lexeme (word w) = sign (kind_of_word w)
-token_lexeme (name n) = record { kind = k.Name; text = n; number = None }
-token_lexeme (number n) = record { kind = k.Number; text = []; number = Some n }
-token_lexeme (quoted t) = record { kind = k.Quoted; text = t; number = None }
-token_lexeme (symbol x) = sign (kind_of_symbol x)
+abbrev pub name_lexeme : List ℕ → Lexeme
+name_lexeme n = record { kind = k.Name; text = n; number = None }
+
+abbrev pub number_lexeme : ℕ → Lexeme
+number_lexeme n = record { kind = k.Number; text = []; number = Some n }
+
+abbrev pub quoted_lexeme : List ℕ → Lexeme
+quoted_lexeme t = record { kind = k.Quoted; text = t; number = None }
+
+-- a token of a spelling as the grammar sees it: a number below zero is a minus and a number
+abbrev pub lexemes_of_token : Token → List Lexeme
+lexemes_of_token (word w) = sign (kind_of_word w) ∷ []
+lexemes_of_token (name n) = name_lexeme n ∷ []
+lexemes_of_token (number n) = number_lexeme n ∷ []
+lexemes_of_token (negative n) = sign k.Minus ∷ number_lexeme n ∷ []
+lexemes_of_token (quoted t) = quoted_lexeme t ∷ []
+lexemes_of_token (symbol x) = sign (kind_of_symbol x) ∷ []
 
 abbrev pub token_lexemes : List Token → List Lexeme
-token_lexemes = map token_lexeme
+token_lexemes = flat_map lexemes_of_token
 
 -- the phrase whose outermost operator binds so tightly, or tighter
 abbrev pub phrase_of : ℕ → Sql Expr
@@ -63,15 +74,15 @@ phrase_of (suc (suc (suc (suc (suc (suc (suc n))))))) = primary
 
 -- ---- the trees that a text may give: names are names, numbers can be written, and no list is empty
 
-abbrev pub fits_value : Value → Bool
-fits_value value.Null = true
-fits_value (value.Int (pos n)) = nat_lt n (2 ^ 63)
-fits_value (value.Int (negsuc n)) = false
-fits_value (value.Text t) = true
+abbrev pub is_parsable_value : Value → Bool
+is_parsable_value value.Null = true
+is_parsable_value (value.Int (pos n)) = nat_lt n (2 ^ 63)
+is_parsable_value (value.Int (negsuc n)) = false
+is_parsable_value (value.Text t) = true
 
-abbrev pub fits_table : Option (List ℕ) → Bool
-fits_table None = true
-fits_table (Some n) = is_name n
+abbrev pub is_parsable_table : Option (List ℕ) → Bool
+is_parsable_table None = true
+is_parsable_table (Some n) = is_name n
 
 -- some, and all of them true
 abbrev pub all_of : List Bool → Bool
@@ -80,26 +91,26 @@ all_of (b ∷ []) = b
 all_of (b ∷ c ∷ more) = b && all_of (c ∷ more)
 
 -- COUNT alone needs no argument
-abbrev pub fits_aggregate : AggregateKind → Option Bool → Bool
-fits_aggregate aggregate.Count None = true
-fits_aggregate aggregate.Sum None = false
-fits_aggregate aggregate.Min None = false
-fits_aggregate aggregate.Max None = false
-fits_aggregate kind (Some b) = b
+abbrev pub is_parsable_aggregate : AggregateKind → Option Bool → Bool
+is_parsable_aggregate aggregate.Count None = true
+is_parsable_aggregate aggregate.Sum None = false
+is_parsable_aggregate aggregate.Min None = false
+is_parsable_aggregate aggregate.Max None = false
+is_parsable_aggregate kind (Some b) = b
 
-abbrev pub fits_at : Expr-F Bool → Bool
-fits_at (Expr-F.Literal v) = fits_value v
-fits_at (Expr-F.Named table n) = fits_table table && is_name n
-fits_at (Expr-F.Placed source column) = false
-fits_at (Expr-F.Unary op a) = a
-fits_at (Expr-F.Binary op l r) = l && r
-fits_at (Expr-F.IsNull a negated) = a
-fits_at (Expr-F.Between a low high negated) = a && (low && high)
-fits_at (Expr-F.InList a items negated) = a && all_of items
-fits_at (Expr-F.Aggregate kind arg) = fits_aggregate kind arg
+abbrev pub is_parsable_at : Expr-F Bool → Bool
+is_parsable_at (Expr-F.Literal v) = is_parsable_value v
+is_parsable_at (Expr-F.Named table n) = is_parsable_table table && is_name n
+is_parsable_at (Expr-F.Placed source column) = false
+is_parsable_at (Expr-F.Unary op a) = a
+is_parsable_at (Expr-F.Binary op l r) = l && r
+is_parsable_at (Expr-F.IsNull a negated) = a
+is_parsable_at (Expr-F.Between a low high negated) = a && (low && high)
+is_parsable_at (Expr-F.InList a items negated) = a && all_of items
+is_parsable_at (Expr-F.Aggregate kind arg) = is_parsable_aggregate kind arg
 
-unfoldable pub fits : Expr → Bool
-fits = fold-Expr Bool fits_at
+unfoldable pub is_parsable : Expr → Bool
+is_parsable = fold-Expr Bool is_parsable_at
 
 -- Where so many levels may be opened, the tokens are derived, and give the tree.
 abbrev pub IsSpelled : Spelling → Expr → Type 0

@@ -1,2 +1,4 @@
+pub mod AsRead
 pub mod Derived
 pub mod Read
+pub mod Readable

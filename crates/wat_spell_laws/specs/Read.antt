@@ -5,15 +5,16 @@ use Rattle.wat_word.specs.Words.{is_name}
 use Rattle.wat_ast.specs.declared.statement.Statement.{Statement}
 use Rattle.wat_lex.specs.Tokens.{tokens_of}
 use Rattle.wat_syntax.specs.Lexeme.{Lexeme, lexemes_of}
-use Rattle.wat_spell.specs.Tokens.{Token, word, name, number, quoted, symbol, written}
+use Rattle.wat_spell.specs.Tokens.{Token, word, name, number, negative, quoted, symbol, written}
 use Rattle.wat_spell.specs.Statements.{spelled_text}
 use Rattle.wat_spell_laws.specs.Derived.{token_lexemes}
 
--- whether a text may have the token: a name is one, and a number is at most 2 ^ 63 - 1
+-- whether a text may have the token: a name is one, and the digits of a number are at most 2 ^ 63 - 1
 abbrev pub can_stand : Token → Bool
 can_stand (word w) = true
 can_stand (name n) = is_name n
 can_stand (number n) = nat_lt n (2 ^ 63)
+can_stand (negative n) = nat_lt n (2 ^ 63)
 can_stand (quoted t) = true
 can_stand (symbol x) = true
 

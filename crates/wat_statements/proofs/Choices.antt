@@ -1,6 +1,6 @@
 -- The first token of a statement tells which it is.
 use Rattle.std.proofs.Common.{◌≡◌, ℕ, List, [], ◌∷◌, if◌then◌else◌, refl, ap}
-use Rattle.wat_grammar.specs.Phrase.{first, sees, map, read_within}
+use Rattle.wat_grammar.specs.Phrase.{first_kinds, sees, map, read_within}
 use Rattle.wat_syntax.specs.Lexeme.{Lexeme}
 use Rattle.wat_syntax.specs.declared.kind.Kind.{Kind}
 use Rattle.wat_syntax.specs.declared.kind.Kind.TheVariants as k
@@ -23,17 +23,17 @@ record Firsts : Type 0 where
 
 computed : Firsts
 computed = record {
-  create = first sql create;
-  drop = first sql drop_table;
-  insert = first sql insert;
-  update = first sql update;
-  delete = first sql delete;
-  query = first sql query;
-  commit = first sql commit;
-  checkpoint = first sql checkpoint;
-  rollback = first sql rollback;
-  savepoint = first sql savepoint;
-  release = first sql release;
+  create = first_kinds sql create;
+  drop = first_kinds sql drop_table;
+  insert = first_kinds sql insert;
+  update = first_kinds sql update;
+  delete = first_kinds sql delete;
+  query = first_kinds sql query;
+  commit = first_kinds sql commit;
+  checkpoint = first_kinds sql checkpoint;
+  rollback = first_kinds sql rollback;
+  savepoint = first_kinds sql savepoint;
+  release = first_kinds sql release;
 }
 
 single : Firsts

@@ -8,4 +8,4 @@ mod query;
 mod reading;
 mod transaction;
 
-pub use reading::whole;
+pub use reading::statement;

@@ -1,8 +1,7 @@
-//! Any statement, from its first token to its last.
+//! Any statement, by its first token.
 
-ghost use Rattle.std.specs.Prelude.{◌≡◌};
 ghost use Rattle.wat_grammar.specs.Phrase.{read_within};
-ghost use Rattle.wat_cursor.specs.Reading.{Reads, ReadsAll};
+ghost use Rattle.wat_cursor.specs.Reading.{Reads};
 ghost use Rattle.wat_syntax.specs.Sql as spec;
 ghost use Rattle.wat_syntax.specs.Sql.{sql, max_nesting};
 
@@ -15,8 +14,9 @@ use wat_ast::Statement;
 use wat_cursor::{Cursor, Fault};
 use wat_syntax::Kind;
 
+/// The statement that is to come next. After want of memory the cursor is not used.
 #[tactic(auto, using(crate::proofs::Choices::statement_is))]
-fn statement(alloc: Global, cursor: &mut Cursor<'_>) -> Result<Statement, Fault>
+pub fn statement(alloc: Global, cursor: &mut Cursor<'_>) -> Result<Statement, Fault>
     ensures { Reads (read_within sql max_nesting spec.statement cursor.old) result cursor.new }
 {
     if cursor.sees(Kind::Create) {
@@ -53,16 +53,4 @@ fn statement(alloc: Global, cursor: &mut Cursor<'_>) -> Result<Statement, Fault>
         return release(alloc, cursor);
     }
     set_option(alloc, cursor)
-}
-
-/// The statement that all of the tokens are. At a fault the cursor stands at the token that does not go on with
-/// those before it, or at the end.
-pub fn whole(alloc: Global, cursor: &mut Cursor<'_>) -> Result<Statement, Fault>
-    ensures { ReadsAll (read_within sql max_nesting spec.statement cursor.old) result cursor.new }
-{
-    let tree = statement(alloc, cursor)?;
-    if cursor.len() != 0 {
-        return Err(Fault::Syntax);
-    }
-    Ok(tree)
 }

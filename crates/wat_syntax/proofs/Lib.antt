@@ -1,4 +1,5 @@
 pub mod Examples
+pub mod Members
 pub mod Placed
 pub mod Rules
 pub mod Values

@@ -1,7 +1,8 @@
 -- The statement that a part of a text is.
-use Rattle.std.specs.Prelude.{◌≡◌, ℕ, ◌-◌, ◌&&◌, if◌then◌else◌, nat_le, List, [], ◌∷◌, ◌++◌, length, drop, filter, Result, Ok, Err}
+use Rattle.std.specs.Prelude.{◌≡◌, ℕ, ◌-◌, List, [], ◌∷◌, ◌++◌, length, drop, Result, Ok, Err}
 use Rattle.wat_ast.specs.declared.statement.Statement.{Statement}
 use Rattle.wat_lex.specs.declared.token.Token.{Token}
+use Rattle.wat_lex.specs.Parts.{tokens_within, next_from}
 use Rattle.wat_lex.specs.Tokens.{tokens_of}
 use Rattle.wat_grammar.specs.Phrase.{read_within, whole, IsPrefix, IsNoMore}
 use Rattle.wat_syntax.specs.Lexeme.{Lexeme, lexemes_of}
@@ -34,15 +35,6 @@ pub record GoesWrong (text : List ℕ) (ts : List Token) (end place : ℕ) : Typ
   pub begins : IsPrefix sql max_nesting statement (lexemes_of text front)
   pub fails : IsNoMore sql max_nesting statement (lexemes_of text front) (lexemes_of text rest)
   pub at : place ≡ place_of end rest
-
--- the tokens of a text between two places
-abbrev pub tokens_within : List ℕ → ℕ → ℕ → List Token
-tokens_within text from to = filter (λ t. nat_le from t.from && nat_le t.to to) (tokens_of text)
-
--- where the first token from a place on begins, or the end where there is none
-abbrev pub next_from : ℕ → ℕ → List Token → ℕ
-next_from at end [] = end
-next_from at end (t ∷ ts) = if nat_le at t.from then t.from else next_from at end ts
 
 -- The statement that a text has between two places, or where it goes wrong: where it ends too early, at the token
 -- behind it or at the end of the text.

@@ -250,15 +250,15 @@ having = maybe (after k.Having expression)
 unfoldable pub ordering : Sql (List OrderItem)
 ordering = or (after k.Order (after k.By (list order))) (empty [])
 
-abbrev pub query_of : Bool → SelectItems → List Source → Option Expr → List Expr → Option Expr → List OrderItem → Query
-query_of distinct items sources filter group having order =
+-- a query of these parts, in the order of its text
+abbrev pub query_of : Bool × (SelectItems × (List Source × (Option Expr × (List Expr × (Option Expr × List OrderItem))))) → Query
+query_of (distinct, (items, (sources, (filter, (group, (having, order)))))) =
     record { distinct = distinct; items = items; sources = sources; filter = filter; group = group; having = having; order = order }
 
 -- query = SELECT [DISTINCT] ( * | expr {, expr} ) FROM source {, source} [WHERE expr]
 --         [GROUP BY column {, column}] [HAVING expr] [ORDER BY order {, order}]
 unfoldable pub query : Sql Query
-query = after k.Select (map (λ x. query_of x.0 x.1.0 x.1.1.0 x.1.1.1.0 x.1.1.1.1.0 x.1.1.1.1.1.0 x.1.1.1.1.1.1)
-    (seq (optional k.Distinct) (seq select_items (after k.From (seq (list source) (seq filter (seq grouping (seq having ordering))))))))
+query = after k.Select (map query_of (seq (optional k.Distinct) (seq select_items (after k.From (seq (list source) (seq filter (seq grouping (seq having ordering))))))))
 
 -- ---- statements
 

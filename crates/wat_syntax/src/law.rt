@@ -1,7 +1,8 @@
-ghost use Rattle.std.specs.Prelude.{◌≡◌, ◌↔◌, ℕ, List, Ok, Err};
+ghost use Rattle.std.specs.Prelude.{◌≡◌, ◌↔◌, ℕ, List, Ok, Err, true};
 ghost use Rattle.wat_ast.specs.declared.statement.Statement.{Statement};
 ghost use Rattle.wat_lex.specs.declared.token.Token.{Token};
 ghost use Rattle.wat_syntax.specs.Lexeme.{Lexeme, lexemes_of};
+ghost use Rattle.wat_syntax.specs.Members.{lists_have_members};
 ghost use Rattle.wat_syntax.specs.Parsed.{parsed_tokens, GoesWrong};
 ghost use Rattle.wat_syntax.specs.Sql.{IsStatement};
 ghost use Rattle.wat_syntax.specs.Values.{HaveValues};
@@ -19,4 +20,9 @@ pub fn parsing_is_exact()
 /// No token of a text is refused for want of a value: a word that is not reserved is a name, and a number has a value.
 pub fn tokens_have_values()
     ensures { (text : List ℕ) → HaveValues text }
+{}
+
+/// No list of a statement is empty where the grammar asks for a member: a table has elements, its key and an index have columns.
+pub fn parsed_lists_have_members()
+    ensures { (ts : List Lexeme) (tree : Statement) → IsStatement ts tree → lists_have_members tree ≡ true }
 {}

@@ -6,8 +6,5 @@ mod law;
 mod nest;
 
 pub use kind::Kind;
-pub use law::{parsing_is_exact, tokens_have_values};
+pub use law::{parsed_lists_have_members, parsing_is_exact, tokens_have_values};
 pub use nest::Nest;
-
-#[cfg(test)]
-mod tests;

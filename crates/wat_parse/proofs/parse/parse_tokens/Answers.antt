@@ -7,7 +7,7 @@ use Rattle.wat_parse.proofs.parse.parse_tokens.Goals as goal
 
 pub returns-in-Ok : goal.returns-in-Ok
 unfolding reading
-returns-in-Ok c = tree_given c.args.text.now c.args.tokens.now c.args.end _ (ap reading (sym c.new-cursor.ensures) ∙ c.in-Ok.ensures)
+returns-in-Ok c = tree_given c.args.text.now c.args.tokens.now c.args.end _ (ap reading (sym c.new-cursor.ensures) ∙ c.in-Ok.ensures.0)
 
 pub returns-in-Err-Syntax : goal.returns-in-Err-Syntax
 unfolding reading

@@ -1,6 +1,6 @@
 use Rattle.std.proofs.Common.{◌≡◌, ◌≤◌, refl, ◌∙◌, ap, arith}
 use Rattle.wat_ast.specs.declared.expression.Expr.{size-Expr}
-use Rattle.wat_spell.specs.Tokens.{puts}
+use Rattle.wat_spell.specs.Growing.{puts}
 use Rattle.wat_spell.specs.Spelling.{placed, spelled}
 use Rattle.wat_spell.proofs.Chains.{begins, begins_below, goes_down, sizes, down_below, goes_up, up_below}
 use Rattle.wat_spell.proofs.expression.+spelling.Goals as goal

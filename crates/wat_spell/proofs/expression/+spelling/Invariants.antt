@@ -3,7 +3,7 @@ use Rattle.std.specs.List.{flat_map}
 use Rattle.wat_ast.specs.declared.expression.Expr.{size-Expr}
 use Rattle.wat_ast.specs.declared.expression.Expr.TheVariants as e
 use Rattle.wat_spell.specs.Spelling.{spelled, placed, expression, comma}
-use Rattle.wat_spell.specs.Tokens.{puts}
+use Rattle.wat_spell.specs.Growing.{puts}
 use Rattle.wat_spell.proofs.Chains.{operations, depth}
 use Rattle.wat_spell.proofs.expression.+spelling.Given as goal
 

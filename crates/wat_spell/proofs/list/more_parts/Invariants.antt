@@ -1,7 +1,7 @@
 use Rattle.std.proofs.Common.{◌≡◌, ◌∷◌, drop}
 use Rattle.std.specs.List.{flat_map}
 use Rattle.wat_spell.specs.Spelling.{comma}
-use Rattle.wat_spell.specs.Tokens.{puts}
+use Rattle.wat_spell.specs.Growing.{puts}
 use Rattle.wat_spell.proofs.list.more_parts.Given as goal
 
 -- what is there so far, and the tokens of what is left

@@ -1,6 +1,6 @@
 use Rattle.std.proofs.Common.{◌≡◌, ◌++◌, drop}
 use Rattle.std.specs.List.{flat_map}
-use Rattle.wat_spell.specs.Tokens.{doubled}
+use Rattle.wat_lex.specs.Rules.{doubled}
 use Rattle.wat_spell.proofs.writing.push_doubled.Given as goal
 
 -- the text so far, and that of what is left
