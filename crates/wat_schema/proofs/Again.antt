@@ -12,7 +12,9 @@ use Rattle.wat_value.specs.declared.definition.TableDef.{TableDef}
 use Rattle.wat_value.specs.declared.definition.IndexDef.{IndexDef}
 use Rattle.wat_value.specs.declared.change.SchemaChange.TheVariants.{CreateTable, CreateIndex}
 use Rattle.wat_schema.specs.Catalog.{Name, Catalog, Listing, ascend, numbers_of, has_name, has_number, has_index, has_index_named, listing_at, listing_named, repeats}
-use Rattle.wat_schema.specs.Definitions.{allows_table, allows_index, allows_index_here, allows_index_of, altered, are_columns, bad_index, catalog_from, followed_by, in_table_order, is_definition, is_full, made_from, may_be_null, next_index, smallest_broken, width_at, with_index, with_indexes_of, with_tables_of}
+use Rattle.wat_value.specs.Widths.{width_at}
+use Rattle.wat_schema.specs.Definitions.{allows_index, allows_index_here, allows_index_of, allows_table, altered, bad_index, is_bad_key, is_definition, is_full, may_be_null, next_index, smallest_broken, with_index}
+use Rattle.wat_schema.specs.Making.{catalog_from, followed_by, in_table_order, made_from, with_indexes_of, with_tables_of}
 use Rattle.wat_schema.specs.Stored.{IsCatalog, are_indexes, defs_of, index_names, indexes_of, is_index, is_whole}
 use Rattle.wat_schema.proofs.Distinct.{fresh_before, fresh_after, find_none, find_here, ascend_distinct}
 use Rattle.wat_schema.proofs.Keeping.{indexed, unindexed, with_tables}
@@ -77,7 +79,7 @@ tables_made defs (def ∷ more) low high less top order names few good =
 pub same_rules : (def : TableDef) (done : List IndexDef) (numbers : List ℕ) → length done < 8
     → bad_index (record { def = def; indexes = done }) numbers ≡ bad_index (record { def = def; indexes = [] }) numbers
 same_rules def done numbers few =
-    ap (λ b. smallest_broken (repeats ◌==◌ numbers ∷ may_be_null def.columns numbers ∷ nat_lt 16 (length numbers) ∷ nat_lt 900 (width_at def.columns numbers + width_at def.columns def.key) ∷ b ∷ []))
+    ap (λ b. smallest_broken (is_bad_key def.columns numbers ∷ may_be_null def.columns numbers ∷ (length numbers == 0 || nat_lt 16 (length numbers)) ∷ nat_lt 900 (width_at def.columns numbers + width_at def.columns def.key) ∷ b ∷ []))
     (lt-leb 8 (length done) few)
 
 next_more : (t : Listing) (index : IndexDef) (number : ℕ) → next_index t ≡ number → index.number ≡ number → next_index (indexed t index) ≡ suc number
@@ -126,11 +128,9 @@ made_here before def done after number m index place is table good few fresh =
     let here : has_number index.table t ≡ true = eq-eqb index.table def.number table in
     let found : listing_at (with_tables m tables) index.table ≡ Some t =
     find_here (has_number index.table) before t (map unindexed after) (subst (λ n. list_any (has_number n) before ≡ false) (sym table) place.earlier) here in
-    let parts = and_parts (are_columns def.columns index.columns) (is_none (bad_index (record { def = def; indexes = [] }) index.columns)) good in
-    let right : is_none (bad_index t index.columns) ≡ true = ap is_none (same_rules def done index.columns few) ∙ parts.1 in
+    let right : is_none (bad_index t index.columns) ≡ true = ap is_none (same_rules def done index.columns few) ∙ good in
     let may : allows_index_here index t ≡ true =
-    and_from (index.number == next_index t && are_columns def.columns index.columns) (is_none (bad_index t index.columns))
-    (and_from (index.number == next_index t) (are_columns def.columns index.columns) (eq-eqb index.number (next_index t) (is ∙ sym place.next)) parts.0) right in
+    and_from (index.number == next_index t) (is_none (bad_index t index.columns)) (eq-eqb index.number (next_index t) (is ∙ sym place.next)) right in
     let names = or_parts (list_any (bytes_eq index.name) (index_names before)) (list_any (bytes_eq index.name) (map (λ i. i.name) done))
     (sym (list_any-append (bytes_eq index.name) (index_names before) (map (λ i. i.name) done)) ∙ fresh) in
     let free : has_index_named (with_tables m tables) index.name ≡ false =
@@ -140,13 +140,13 @@ made_here before def done after number m index place is table good few fresh =
     and_from (allows_index_of index (listing_at (with_tables m tables) index.table)) (not (has_index_named (with_tables m tables) index.name))
     (ap (allows_index_of index) found ∙ may) (ap not free)
 
-record IsNext (def : TableDef) (number : ℕ) (index : IndexDef) (todo : List IndexDef) : Type 0 where
-  number_is : index.number ≡ number
-  table_is : index.table ≡ def.number
-  good : is_index def index ≡ true
-  rest : are_indexes def (suc number) todo ≡ true
+pub record IsNext (def : TableDef) (number : ℕ) (index : IndexDef) (todo : List IndexDef) : Type 0 where
+  pub number_is : index.number ≡ number
+  pub table_is : index.table ≡ def.number
+  pub good : is_index def index ≡ true
+  pub rest : are_indexes def (suc number) todo ≡ true
 
-next_of : (def : TableDef) (number : ℕ) (index : IndexDef) (todo : List IndexDef) → are_indexes def number (index ∷ todo) ≡ true → IsNext def number index todo
+pub next_of : (def : TableDef) (number : ℕ) (index : IndexDef) (todo : List IndexDef) → are_indexes def number (index ∷ todo) ≡ true → IsNext def number index todo
 next_of def number index todo h =
     let outer = and_parts (index.number == number && index.table == def.number && is_index def index) (are_indexes def (suc number) todo) h in
     let inner = and_parts (index.number == number && index.table == def.number) (is_index def index) outer.0 in

@@ -1,6 +1,6 @@
 -- What a schema is kept with, as tables and indexes come and go.
 use Rattle.std.proofs.Common.{◌≡◌, ℕ, ◌+◌, ◌<◌, ◌≤◌, Bool, true, false, ◌&&◌, ◌||◌, List, [], ◌∷◌, ◌++◌, map, take, length, get_or, set, slice_get, Some, None, not, nat_lt, is_none, IsSome, nat_le, zero, suc, max, refl, sym, ap, ap₂, subst, ◌∙◌, ◌==◌, arith}
-use Rattle.std.specs.List.{list_any, remove, range_with_len, flat_map, fold}
+use Rattle.std.specs.List.{list_any, remove, range_with_len, fold, position_from}
 use Rattle.std.specs.Str.{bytes_eq}
 use Rattle.std.proofs.lemmas.Bool.{and_parts, and_from, or_parts, not-true, eqb-true, leb-true, leb-false, le-leb}
 use Rattle.std.proofs.lemmas.List.{map-append, take_more, length_push}
@@ -9,7 +9,8 @@ use Rattle.wat_value.specs.declared.definition.Column.{Column}
 use Rattle.wat_value.specs.declared.definition.TableDef.{TableDef}
 use Rattle.wat_value.specs.declared.definition.IndexDef.{IndexDef}
 use Rattle.wat_schema.specs.Catalog.{Name, Catalog, Listing, ascend, numbers_of, has_name, has_index_named, listing_at, listing_named, repeats}
-use Rattle.wat_schema.specs.Definitions.{IsListing, IsKept, next_index, same_name, allows_table, allows_index, allows_index_of, allows_index_here, are_columns, may_be_null, is_definition, bad_definition, bad_index, is_full, is_bad_key, is_bad_length, widths, width_at, smallest_broken}
+use Rattle.wat_schema.specs.Definitions.{allows_index, allows_index_here, allows_index_of, allows_table, bad_definition, bad_index, index_rules, is_definition, is_full, may_be_null, next_index, same_name, table_rules}
+use Rattle.wat_schema.specs.Kept.{IsListing, IsKept}
 use Rattle.wat_schema.proofs.Order.{ascend-next, higher, ascend-remove, fresh_number, fresh_item, map-remove, map-set_same, list_any-map, list_any-found, range-next}
 
 -- ---- the numbers of indexes
@@ -128,25 +129,12 @@ indexed t index = record t { indexes = t.indexes ++ index ∷ [] }
 
 -- ---- what an allowed change says
 
--- no rule is broken, so the last one isn't
-eighth : (a b c d e f g h : Bool) → is_none (smallest_broken (a ∷ b ∷ c ∷ d ∷ e ∷ f ∷ g ∷ h ∷ [])) ≡ true → h ≡ false
-eighth true b c d e f g h none = cc
-eighth false true c d e f g h none = cc
-eighth false false true d e f g h none = cc
-eighth false false false true e f g h none = cc
-eighth false false false false true f g h none = cc
-eighth false false false false false true g h none = cc
-eighth false false false false false false true h none = cc
-eighth false false false false false false false true none = cc
-eighth false false false false false false false false none = refl
-
-fifth : (a b c d e : Bool) → is_none (smallest_broken (a ∷ b ∷ c ∷ d ∷ e ∷ [])) ≡ true → e ≡ false
-fifth true b c d e none = cc
-fifth false true c d e none = cc
-fifth false false true d e none = cc
-fifth false false false true e none = cc
-fifth false false false false true none = cc
-fifth false false false false false none = refl
+-- where no rule is broken, each isn't
+pub none_broken : (rules : List Bool) (n i : ℕ) (b : Bool) → is_none (position_from (λ broken. broken) n rules) ≡ true → slice_get rules i ≡ Some b → b ≡ false
+none_broken [] n i b h at = cc
+none_broken (true ∷ rs) n i b h at = cc
+none_broken (false ∷ rs) n zero b h at = let is : false ≡ b = cc in sym is
+none_broken (false ∷ rs) n (suc i) b h at = none_broken rs (n + 1) i b h at
 
 pub record MayTable (c : Catalog) (def : TableDef) : Type 0 where
   pub number : def.number ≡ c.next
@@ -159,11 +147,9 @@ pub may_table : (c : Catalog) (def : TableDef) → allows_table c def ≡ true �
 may_table c def allowed =
     let outer = and_parts (def.number == c.next && is_none (listing_named c def.name)) (is_definition (is_full c) def) allowed in
     let inner = and_parts (def.number == c.next) (is_none (listing_named c def.name)) outer.0 in
-    let kept = and_parts (are_columns def.columns def.key && not (may_be_null def.columns def.key)) (is_none (bad_definition (is_full c) def.columns (def.key ∷ []))) outer.1 in
-    let key = flat_map (λ key. key) (def.key ∷ []) in
+    let kept = and_parts (not (may_be_null def.columns def.key)) (is_none (bad_definition (is_full c) def.columns (def.key ∷ []))) outer.1 in
     let room : is_full c ≡ false =
-    eighth (repeats same_name def.columns) (not (length (def.key ∷ []) == 1)) (is_bad_key def.columns key) (nat_lt 64 (length def.columns) || nat_lt 16 (length key))
-    (list_any (λ column. is_bad_length column.kind) def.columns) (nat_lt 3500 (2 + widths def.columns)) (nat_lt 400 (width_at def.columns key)) (is_full c) kept.1 in
+    none_broken (table_rules (is_full c) def.columns (def.key ∷ [])) 1 7 (is_full c) kept.1 refl in
     record {
       number = eqb-true def.number c.next inner.0;
       free = inner.1;
@@ -175,19 +161,16 @@ may_table c def allowed =
 pub record MayIndex (t : Listing) (index : IndexDef) : Type 0 where
   pub few : length t.indexes < 8
   pub next : index.number ≡ next_index t
-  pub columns : are_columns t.def.columns index.columns ≡ true
   pub right : is_none (bad_index t index.columns) ≡ true
 
 pub may_index : (c : Catalog) (index : IndexDef) (t : Listing) → allows_index c index ≡ true → Some t ≡ listing_at c index.table → MayIndex t index
 may_index c index t allowed stands =
     let outer = and_parts (allows_index_of index (listing_at c index.table)) (not (has_index_named c index.name)) allowed in
     let here : allows_index_here index t ≡ true = ap (allows_index_of index) stands ∙ outer.0 in
-    let parts = and_parts (index.number == next_index t && are_columns t.def.columns index.columns) (is_none (bad_index t index.columns)) here in
-    let inner = and_parts (index.number == next_index t) (are_columns t.def.columns index.columns) parts.0 in
+    let parts = and_parts (index.number == next_index t) (is_none (bad_index t index.columns)) here in
     record {
-      few = leb-false 8 (length t.indexes) (fifth _ _ _ _ _ parts.1);
-      next = eqb-true index.number (next_index t) inner.0;
-      columns = inner.1;
+      few = leb-false 8 (length t.indexes) (none_broken (index_rules t index.columns) 1 4 (nat_le 8 (length t.indexes)) parts.1 refl);
+      next = eqb-true index.number (next_index t) parts.0;
       right = parts.1;
     }
 

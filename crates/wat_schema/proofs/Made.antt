@@ -10,7 +10,8 @@ use Rattle.wat_value.specs.declared.definition.TableDef.{TableDef}
 use Rattle.wat_value.specs.declared.definition.IndexDef.{IndexDef}
 use Rattle.wat_value.specs.declared.change.SchemaChange.TheVariants.{CreateTable, CreateIndex}
 use Rattle.wat_schema.specs.Catalog.{Catalog, Listing, empty_catalog, ascend, numbers_of}
-use Rattle.wat_schema.specs.Definitions.{allows_table, allows_index, altered, catalog_from, followed_by, in_table_order, made_from, numbered_from, with_indexes_of, with_tables_of}
+use Rattle.wat_schema.specs.Definitions.{allows_index, allows_table, altered}
+use Rattle.wat_schema.specs.Making.{catalog_from, followed_by, in_table_order, made_from, numbered_from, with_indexes_of, with_tables_of}
 use Rattle.wat_schema.specs.Stored.{IsCatalog, IsStored, defs_of, indexes_of}
 use Rattle.wat_schema.proofs.Again.{made_again}
 use Rattle.wat_schema.proofs.Keeping.{indexed, unindexed, may_table}

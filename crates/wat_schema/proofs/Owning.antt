@@ -9,7 +9,8 @@ use Rattle.std.proofs.lemmas.List.Folds.{list_any-append, Any-from_list_any, lis
 use Rattle.wat_value.specs.declared.definition.TableDef.{TableDef}
 use Rattle.wat_value.specs.declared.definition.IndexDef.{IndexDef}
 use Rattle.wat_schema.specs.Catalog.{Name, Listing, has_index}
-use Rattle.wat_schema.specs.Definitions.{has_index_at, IsOwned, with_index}
+use Rattle.wat_schema.specs.Definitions.{with_index}
+use Rattle.wat_schema.specs.Kept.{has_index_at, IsOwned}
 
 -- ---- a map of names
 

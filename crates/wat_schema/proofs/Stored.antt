@@ -9,7 +9,8 @@ use Rattle.wat_value.specs.declared.definition.TableDef.{TableDef}
 use Rattle.wat_value.specs.declared.definition.IndexDef.{IndexDef}
 use Rattle.wat_value.specs.declared.change.SchemaChange.TheVariants.{CreateTable, CreateIndex}
 use Rattle.wat_schema.specs.Catalog.{Catalog}
-use Rattle.wat_schema.specs.Definitions.{allows_table, allows_index, altered, followed_by, numbered_from, with_tables_of, with_indexes_of}
+use Rattle.wat_schema.specs.Definitions.{allows_index, allows_table, altered}
+use Rattle.wat_schema.specs.Making.{followed_by, numbered_from, with_tables_of, with_indexes_of}
 
 drop_at : {A : Type 0} (xs : List A) (i : ℕ) (x : A) → slice_get xs i ≡ Some x → drop i xs ≡ x ∷ drop (i + 1) xs
 drop_at xs i x is = let within = slice_get_within xs i x is in rw (add-one, drop-cons xs i x within, get_or_from_slice_get xs i x x is)

@@ -1,5 +1,5 @@
 -- The laws of acts on tables.
-use Rattle.std.proofs.Common.{◌≡◌, ℕ, ◌+◌, ◌≤◌, ◌==◌, Bool, true, false, not, cond, ◌&&◌, if◌then◌else◌, List, [], ◌∷◌, ◌++◌, map, filter, Option, Some, None, nat_le, refl, sym, ap, ap₂, subst, ◌∙◌, inl, inr, arith}
+use Rattle.std.proofs.Common.{◌≡◌, ℕ, ◌+◌, ◌≤◌, ◌==◌, Bool, true, false, not, cond, ◌&&◌, if◌then◌else◌, is_none, is_some, List, [], ◌∷◌, ◌++◌, map, filter, Option, Some, None, nat_le, refl, sym, ap, ap₂, subst, ◌∙◌, inl, inr, arith}
 use Rattle.std.specs.declared.cmp.Ordering.{Ordering}
 use Rattle.std.specs.declared.cmp.Ordering.TheVariants.{Less, Equal, Greater}
 use Rattle.std.specs.Ordering.{is_eq}
@@ -8,6 +8,7 @@ use Rattle.std.specs.List.{find, list_any, list_all}
 use Rattle.std.specs.Option.{option_map, option_and_then}
 use Rattle.std.proofs.lemmas.Bool.{and_parts, and_from, not-true, eq-eqb, eqb-true, ne_eqb, leb-true, le-leb, cases_Bool}
 use Rattle.std.proofs.lemmas.List.{map-append}
+use Rattle.wat_value.specs.declared.value.Value.{Value}
 use Rattle.wat_value.specs.declared.definition.TableDef.{TableDef}
 use Rattle.wat_value.specs.declared.definition.IndexDef.{IndexDef}
 use Rattle.wat_value.specs.declared.change.Change.{Change}
@@ -20,15 +21,18 @@ use Rattle.wat_value.specs.Order.{key_cmp}
 use Rattle.wat_value.specs.OrderLaws.{key_cmp_total, key_cmp_level, key_cmp_refl}
 use Rattle.wat_value.specs.Fits.{fits, key_of}
 use Rattle.wat_schema.specs.Catalog.{Catalog, Listing, ascend, in_order, numbers_of, has_number}
-use Rattle.wat_schema.specs.Definitions.{allows, altered, with_index as with_listed}
-use Rattle.wat_schema.specs.Tables.{Table, Tables, Row, row_eq, by_key, has_row, has_key, put, rising, is_table, are_tables, listing_of, catalog_of, table_at, with_table, on_table, after_insert, after_update, after_delete, apply_change, inverse, with_index, after_alter, apply}
+use Rattle.wat_schema.specs.Definitions.{allows, altered, with_index}
+use Rattle.wat_list.specs.Rising.{rising}
+use Rattle.wat_schema.specs.Tables.{Table, Tables, Row, row_eq, by_key, has_row, has_key, row_with, with_row, is_table, are_tables, listing_of, catalog_of, table_at, with_table, on_table, after_insert, after_update, after_delete, apply_change, inverse, indexed, after_alter, apply}
+use Rattle.wat_schema.proofs.Distinct.{find_none}
 use Rattle.wat_schema.proofs.Keeping.{may_table}
-use Rattle.wat_schema.proofs.Order.{ascend-next, ascend-filter, begins}
+use Rattle.wat_schema.proofs.Order.{ascend-next, ascend-filter, begins, list_any-found}
+use Rattle.wat_schema.proofs.Placed.{Changed, changed, Good, good_found, found_placed, numbers_placed, all_placed, replaced}
 use Rattle.wat_schema.proofs.RowOrder as rows
 
 -- ---- rows
 
-itself : (row : Row) → row_eq row row ≡ true
+pub itself : (row : Row) → row_eq row row ≡ true
 itself row = ap is_eq (key_cmp_refl row)
 
 equal_from : (o : Ordering) → is_eq o ≡ true → o ≡ Equal
@@ -36,60 +40,75 @@ equal_from Less h = cc
 equal_from Equal h = refl
 equal_from Greater h = cc
 
-equal : (a b : Row) → row_eq a b ≡ true → a ≡ b
+pub equal : (a b : Row) → row_eq a b ≡ true → a ≡ b
 equal a b h = key_cmp_level a b (equal_from (key_cmp a b) h)
 
-total : (def : TableDef) → IsTotalOrder (by_key def)
+pub total : (def : TableDef) → IsTotalOrder (by_key def)
 total def = on_total (key_of def) key_cmp_total
 
-level : (def : TableDef) (row : Row) → by_key def row row ≡ Equal
+pub level : (def : TableDef) (row : Row) → by_key def row row ≡ Equal
 level def row = key_cmp_refl (key_of def row)
 
 -- ---- one table
 
-taken : {X : Type 0} (b : Bool) (a y : X) → cond b (Some a) None ≡ Some y → (b ≡ true) × (a ≡ y)
+none_is : {X : Type 0} (o : Option X) → is_some o ≡ false → is_none o ≡ true
+none_is None h = refl
+none_is (Some x) h = cc
+
+some_is : {X : Type 0} (o : Option X) → is_none o ≡ true → is_some o ≡ false
+some_is None h = refl
+some_is (Some x) h = cc
+
+-- no row has the key, asked in two ways
+pub none_with : (x : Table) (key : List Value) → has_key x key ≡ false → list_any (λ row. row_eq (key_of x.def row) key) x.rows ≡ false
+none_with x key h = list_any-found (λ row. row_eq (key_of x.def row) key) x.rows (none_is (row_with x key) h)
+
+pub with_none : (x : Table) (key : List Value) → list_any (λ row. row_eq (key_of x.def row) key) x.rows ≡ false → has_key x key ≡ false
+with_none x key h = some_is (row_with x key) (find_none (λ row. row_eq (key_of x.def row) key) x.rows h)
+
+pub taken : {X : Type 0} (b : Bool) (a y : X) → cond b (Some a) None ≡ Some y → (b ≡ true) × (a ≡ y)
 taken true a y h = (refl, cc)
 taken false a y h = cc
 
-record Back (back : Table → Option Table) (x y : Table) : Type 0 where
-  returns : back y ≡ Some x
-  kept : is_table y ≡ true
-  def : y.def ≡ x.def
+pub record Back (back : Table → Option Table) (x y : Table) : Type 0 where
+  pub returns : back y ≡ Some x
+  pub kept : is_table y ≡ true
+  pub def : y.def ≡ x.def
 
-insert_back : (row : Row) (x y : Table) → is_table x ≡ true → after_insert row x ≡ Some y → Back (after_delete row) x y
+pub insert_back : (row : Row) (x y : Table) → is_table x ≡ true → after_insert row x ≡ Some y → Back (after_delete row) x y
 insert_back row x y ok h = subst (Back (after_delete row) x) got.1 (record { returns = returns; kept = kept; def = refl })
   where
     cmp : Row → Row → Ordering
     cmp = by_key x.def
 
-    got : ((fits x.def row && not (has_key x (key_of x.def row))) ≡ true) × (record x { rows = put x.def row x.rows } ≡ y)
-    got = taken (fits x.def row && not (has_key x (key_of x.def row))) (record x { rows = put x.def row x.rows }) y h
+    got : ((fits x.def row && not (has_key x (key_of x.def row))) ≡ true) × (record x { rows = with_row x.def row x.rows } ≡ y)
+    got = taken (fits x.def row && not (has_key x (key_of x.def row))) (record x { rows = with_row x.def row x.rows }) y h
 
     asked : (fits x.def row ≡ true) × (not (has_key x (key_of x.def row)) ≡ true)
     asked = and_parts (fits x.def row) (not (has_key x (key_of x.def row))) got.0
 
-    free : has_key x (key_of x.def row) ≡ false
-    free = not-true (has_key x (key_of x.def row)) asked.1
+    free : list_any (λ other. row_eq (key_of x.def other) (key_of x.def row)) x.rows ≡ false
+    free = none_with x (key_of x.def row) (not-true (has_key x (key_of x.def row)) asked.1)
 
     stands : (list_all (fits x.def) x.rows ≡ true) × (rising (by_key x.def) x.rows ≡ true)
     stands = and_parts (list_all (fits x.def) x.rows) (rising (by_key x.def) x.rows) ok
 
-    has : list_any (row_eq row) (put x.def row x.rows) ≡ true
+    has : list_any (row_eq row) (with_row x.def row x.rows) ≡ true
     has = rows.has-put (by_key x.def) row_eq (total x.def) itself equal (level x.def) row x.rows
 
-    gone : filter (λ other. not (row_eq other row)) (put x.def row x.rows) ≡ x.rows
+    gone : filter (λ other. not (row_eq other row)) (with_row x.def row x.rows) ≡ x.rows
     gone = rows.remove-put (by_key x.def) row_eq (total x.def) itself equal (level x.def) row x.rows stands.1 free
 
-    returns : after_delete row (record x { rows = put x.def row x.rows }) ≡ Some x
+    returns : after_delete row (record x { rows = with_row x.def row x.rows }) ≡ Some x
     returns = rw has (ap (λ rs. Some (record x { rows = rs })) gone)
 
-    kept : is_table (record x { rows = put x.def row x.rows }) ≡ true
+    kept : is_table (record x { rows = with_row x.def row x.rows }) ≡ true
     kept =
-        and_from (list_all (fits x.def) (put x.def row x.rows)) (rising (by_key x.def) (put x.def row x.rows))
+        and_from (list_all (fits x.def) (with_row x.def row x.rows)) (rising (by_key x.def) (with_row x.def row x.rows))
         (rows.list_all-put (by_key x.def) row_eq (total x.def) itself equal (level x.def) (fits x.def) row x.rows stands.0 asked.0)
         (rows.rising-put (by_key x.def) row_eq (total x.def) itself equal (level x.def) row x.rows stands.1 free)
 
-delete_back : (row : Row) (x y : Table) → is_table x ≡ true → after_delete row x ≡ Some y → Back (after_insert row) x y
+pub delete_back : (row : Row) (x y : Table) → is_table x ≡ true → after_delete row x ≡ Some y → Back (after_insert row) x y
 delete_back row x y ok h = subst (Back (after_insert row) x) got.1 (record { returns = returns; kept = kept; def = refl })
   where
     got : (has_row x row ≡ true) × (record x { rows = filter (λ other. not (row_eq other row)) x.rows } ≡ y)
@@ -101,10 +120,12 @@ delete_back row x y ok h = subst (Back (after_insert row) x) got.1 (record { ret
     fit : fits x.def row ≡ true
     fit = rows.among (by_key x.def) row_eq (total x.def) itself equal (level x.def) (fits x.def) row x.rows stands.0 got.0
 
-    free : list_any (λ other. row_eq (key_of x.def other) (key_of x.def row)) (filter (λ other. not (row_eq other row)) x.rows) ≡ false
-    free = rows.gone-remove (by_key x.def) row_eq (total x.def) itself equal (level x.def) row x.rows stands.1 got.0
+    free : has_key (record x { rows = filter (λ other. not (row_eq other row)) x.rows }) (key_of x.def row) ≡ false
+    free =
+        with_none (record x { rows = filter (λ other. not (row_eq other row)) x.rows }) (key_of x.def row)
+        (rows.gone-remove (by_key x.def) row_eq (total x.def) itself equal (level x.def) row x.rows stands.1 got.0)
 
-    again : put x.def row (filter (λ other. not (row_eq other row)) x.rows) ≡ x.rows
+    again : with_row x.def row (filter (λ other. not (row_eq other row)) x.rows) ≡ x.rows
     again = rows.put-remove (by_key x.def) row_eq (total x.def) itself equal (level x.def) row x.rows stands.1 got.0
 
     returns : after_insert row (record x { rows = filter (λ other. not (row_eq other row)) x.rows }) ≡ Some x
@@ -116,7 +137,7 @@ delete_back row x y ok h = subst (Back (after_insert row) x) got.1 (record { ret
         (rows.list_all-filter (fits x.def) (λ other. not (row_eq other row)) x.rows stands.0)
         (rows.rising-filter (by_key x.def) row_eq (total x.def) itself equal (level x.def) (λ other. not (row_eq other row)) x.rows stands.1)
 
-update_back : (before after : Row) (x y : Table) → is_table x ≡ true → after_update before after x ≡ Some y → Back (after_update after before) x y
+pub update_back : (before after : Row) (x y : Table) → is_table x ≡ true → after_update before after x ≡ Some y → Back (after_update after before) x y
 update_back before after x y ok h = subst (Back (after_update after before) x) got.1 (record { returns = returns; kept = kept; def = refl })
   where
     got : ((has_row x before && row_eq (key_of x.def before) (key_of x.def after) && fits x.def after) ≡ true) × (record x { rows = map (λ row. if row_eq row before then after else row) x.rows } ≡ y)
@@ -160,95 +181,6 @@ update_back before after x y ok h = subst (Back (after_update after before) x) g
 
 -- ---- all tables
 
-abbrev number : Table → ℕ
-number x = x.def.number
-
-module _ (n : ℕ) (y : Table) (named : n ≡ y.def.number) where
-  abbrev placed : Table → Table
-  placed other = if n == other.def.number then y else other
-
-  numbers_placed : (xs : List Table) → numbers_of (map listing_of (map placed xs)) ≡ numbers_of (map listing_of xs)
-  numbers_placed [] = refl
-  numbers_placed (x ∷ xs) = elim (cases_Bool (n == x.def.number)) [
-    | inl here ↦ rw here (ap₂ (λ a b. a ∷ b) (sym named ∙ eqb-true n x.def.number here) (numbers_placed xs))
-    | inr other ↦ rw other (ap (λ b. x.def.number ∷ b) (numbers_placed xs))
-  ]
-
-  all_placed : is_table y ≡ true → (xs : List Table) → list_all is_table xs ≡ true → list_all is_table (map placed xs) ≡ true
-  all_placed ok [] h = refl
-  all_placed ok (x ∷ xs) h =
-      let parts = and_parts (is_table x) (list_all is_table xs) h in
-      and_from (is_table (placed x)) (list_all is_table (map placed xs))
-      (elim (n == x.def.number) as (λ v. is_table (if v then y else x) ≡ true) [ true ↦ ok | false ↦ parts.0 ]) (all_placed ok xs parts.1)
-
-  found_placed : (x : Table) (xs : List Table) → find (λ z. n == z.def.number) xs ≡ Some x → find (λ z. n == z.def.number) (map placed xs) ≡ Some y
-  found_placed x [] h = cc
-  found_placed x (z ∷ zs) h = elim (cases_Bool (n == z.def.number)) [
-    | inl here ↦ let there : (n == y.def.number) ≡ true = eq-eqb n y.def.number named in rw (here, there) refl
-    | inr other ↦
-        let rest : cond (n == z.def.number) (Some z) (find (λ w. n == w.def.number) zs) ≡ Some x = h in
-        rw (other, other) (found_placed x zs (rw other at rest))
-  ]
-
-ok_found : (n : ℕ) (x : Table) (xs : List Table) → list_all is_table xs ≡ true → find (λ z. n == z.def.number) xs ≡ Some x → (is_table x ≡ true) × (n ≡ x.def.number)
-ok_found n x [] h k = cc
-ok_found n x (z ∷ zs) h k =
-    let parts = and_parts (is_table z) (list_all is_table zs) h in
-    let found : cond (n == z.def.number) (Some z) (find (λ w. n == w.def.number) zs) ≡ Some x = k in
-    elim (cases_Bool (n == z.def.number)) [
-      | inl here ↦
-          let same : Some z ≡ Some x = rw here at found in
-          let is : z ≡ x = cc in
-          (ap is_table (sym is) ∙ parts.0, eqb-true n z.def.number here ∙ ap number is)
-      | inr other ↦ ok_found n x zs parts.1 (rw other at found)
-    ]
-
--- no table has a number that is not above the lower bound
-unplaced : (n : ℕ) (y : Table) (low high : ℕ) (xs : List Table) → n ≤ low → ascend low (numbers_of (map listing_of xs)) high ≡ true
-    → map (λ other. if n == other.def.number then y else other) xs ≡ xs
-unplaced n y low high [] l h = refl
-unplaced n y low high (x ∷ xs) l h =
-    let b = begins low x.def.number (numbers_of (map listing_of xs)) high h in
-    let other : (n == x.def.number) ≡ false = ne_eqb n x.def.number (λ e. omega arith) in
-    rw other (ap (λ rest. x ∷ rest) (unplaced n y x.def.number high xs (omega arith) b.rest))
-
--- a table in the place of another, and that one back in its place
-replaced : (n : ℕ) (x y : Table) (low high : ℕ) (xs : List Table) → n ≡ y.def.number → ascend low (numbers_of (map listing_of xs)) high ≡ true → find (λ z. n == z.def.number) xs ≡ Some x
-    → map (λ other. if n == other.def.number then x else other) (map (λ other. if n == other.def.number then y else other) xs) ≡ xs
-replaced n x y low high [] named h k = refl
-replaced n x y low high (z ∷ zs) named h k =
-    let b = begins low z.def.number (numbers_of (map listing_of zs)) high h in
-    let found : cond (n == z.def.number) (Some z) (find (λ w. n == w.def.number) zs) ≡ Some x = k in
-    elim (cases_Bool (n == z.def.number)) [
-      | inl here ↦
-          let same : Some z ≡ Some x = rw here at found in
-          let is : z ≡ x = cc in
-          let there : (n == y.def.number) ≡ true = eq-eqb n y.def.number named in
-          let at : n ≡ z.def.number = eqb-true n z.def.number here in
-          let later = unplaced n y z.def.number high zs (omega arith) b.rest in
-          rw (here, there, later) (ap₂ (λ a rest. a ∷ rest) (sym is) (unplaced n x z.def.number high zs (omega arith) b.rest))
-      | inr other ↦ rw (other, other) (ap (λ rest. z ∷ rest) (replaced n x y z.def.number high zs named b.rest (rw other at found)))
-    ]
-
--- a change that applies found its table, and put another in its place
-record Changed (n : ℕ) (change : Table → Option Table) (t after : Tables) : Type 0 where
-  from : Table
-  to : Table
-  found : table_at t n ≡ Some from
-  made : change from ≡ Some to
-  is : with_table n t to ≡ after
-
-changed : (n : ℕ) (change : Table → Option Table) (t after : Tables) → on_table n change t ≡ Some after → Changed n change t after
-changed n change t after h = by (table_at t n) refl h
-  where
-    made_by : (x : Table) (o : Option Table) → table_at t n ≡ Some x → change x ≡ o → option_map (with_table n t) o ≡ Some after → Changed n change t after
-    made_by x None found made h = cc
-    made_by x (Some y) found made h = record { from = x; to = y; found = found; made = made; is = (let same : Some (with_table n t y) ≡ Some after = h in cc) }
-
-    by : (o : Option Table) → table_at t n ≡ o → option_and_then (λ x. option_map (with_table n t) (change x)) o ≡ Some after → Changed n change t after
-    by None found h = cc
-    by (Some x) found h = made_by x (change x) found refl h
-
 record Undone (n : ℕ) (back : Table → Option Table) (before after : Tables) : Type 0 where
   returns : on_table n back after ≡ Some before
   kept : are_tables after ≡ true
@@ -266,28 +198,28 @@ undone n change back one before after ok h = subst (Undone n back before) c.is (
     order : (nat_le 1 before.next ≡ true) × (ascend 0 (numbers_of (map listing_of before.tables)) before.next ≡ true)
     order = and_parts (nat_le 1 before.next) (ascend 0 (numbers_of (map listing_of before.tables)) before.next) parts.0
 
-    there : (is_table c.from ≡ true) × (n ≡ c.from.def.number)
-    there = ok_found n c.from before.tables parts.1 c.found
+    there : Good n c.from
+    there = good_found n c.from before.tables parts.1 c.found
 
     b : Back back c.from c.to
-    b = one c.from c.to there.0 c.made
+    b = one c.from c.to there.ok c.made
 
     named : n ≡ c.to.def.number
-    named = there.1 ∙ ap (λ d. d.number) (sym b.def)
+    named = there.named ∙ ap (λ d. d.number) (sym b.def)
 
     again : with_table n (with_table n before c.to) c.from ≡ before
     again = ap (λ ts. record before { tables = ts }) (replaced n c.from c.to 0 before.next before.tables named order.1 c.found)
 
     returns : on_table n back (with_table n before c.to) ≡ Some before
     returns =
-        ap (option_and_then (λ x. option_map (with_table n (with_table n before c.to)) (back x))) (found_placed n c.to named c.from before.tables c.found)
+        ap (option_and_then (λ x. option_map (with_table n (with_table n before c.to)) (back x))) (found_placed n c.to c.from before.tables named c.found)
         ∙ ap (option_map (with_table n (with_table n before c.to))) b.returns ∙ ap Some again
 
     kept : are_tables (with_table n before c.to) ≡ true
     kept =
         and_from (in_order (catalog_of (with_table n before c.to))) (list_all is_table (with_table n before c.to).tables)
         (ap (λ ns. nat_le 1 before.next && ascend 0 ns before.next) (numbers_placed n c.to named before.tables) ∙ parts.0)
-        (all_placed n c.to named b.kept before.tables parts.1)
+        (all_placed n c.to b.kept before.tables parts.1)
 
 -- ---- the laws
 
@@ -310,11 +242,11 @@ map-filter n (x ∷ xs) = elim (n == x.def.number) as (λ v. map listing_of (con
   | false ↦ ap (λ rest. listing_of x ∷ rest) (map-filter n xs)
 ]
 
-map-indexed : (index : IndexDef) (xs : List Table) → map listing_of (map (with_index index) xs) ≡ map (with_listed index) (map listing_of xs)
+map-indexed : (index : IndexDef) (xs : List Table) → map listing_of (map (indexed index) xs) ≡ map (with_index index) (map listing_of xs)
 map-indexed index [] = refl
 map-indexed index (x ∷ xs) = ap₂ (λ a rest. a ∷ rest) (one (index.table == x.def.number) refl) (map-indexed index xs)
   where
-    one : (b : Bool) → (index.table == x.def.number) ≡ b → listing_of (with_index index x) ≡ with_listed index (listing_of x)
+    one : (b : Bool) → (index.table == x.def.number) ≡ b → listing_of (indexed index x) ≡ with_index index (listing_of x)
     one true e = rw e refl
     one false e = rw e refl
 
@@ -325,11 +257,11 @@ catalog-after (CreateTable def) t =
 catalog-after (DropTable table) t = ap (λ ts. record { tables = ts; next = t.next }) (map-filter table t.tables)
 catalog-after (CreateIndex index) t = ap (λ ts. record { tables = ts; next = t.next }) (map-indexed index t.tables)
 
-numbers_indexed : (index : IndexDef) (xs : List Listing) → numbers_of (map (with_listed index) xs) ≡ numbers_of xs
+numbers_indexed : (index : IndexDef) (xs : List Listing) → numbers_of (map (with_index index) xs) ≡ numbers_of xs
 numbers_indexed index [] = refl
 numbers_indexed index (x ∷ xs) = ap₂ (λ a rest. a ∷ rest) (one (index.table == x.def.number) refl) (numbers_indexed index xs)
   where
-    one : (b : Bool) → (index.table == x.def.number) ≡ b → (with_listed index x).def.number ≡ x.def.number
+    one : (b : Bool) → (index.table == x.def.number) ≡ b → (with_index index x).def.number ≡ x.def.number
     one true e = rw e refl
     one false e = rw e refl
 
@@ -349,13 +281,7 @@ order_after (CreateIndex index) c h allowed = ap (λ ns. nat_le 1 c.next && asce
 tables_after : (change : SchemaChange) (t : Tables) → list_all is_table t.tables ≡ true → list_all is_table (after_alter change t).tables ≡ true
 tables_after (CreateTable def) t h = rows.list_all-append is_table t.tables (record { def = def; indexes = []; rows = [] } ∷ []) h refl
 tables_after (DropTable table) t h = rows.list_all-filter is_table (λ x. not (table == x.def.number)) t.tables h
-tables_after (CreateIndex index) t h = rows.list_all-map is_table (with_index index) keeps t.tables h
-  where
-    keeps : (x : Table) → is_table x ≡ true → is_table (with_index index x) ≡ true
-    keeps x ok = elim (index.table == x.def.number) as (λ v. is_table (if v then record x { indexes = x.indexes ++ index ∷ [] } else x) ≡ true) [
-      | true ↦ ok
-      | false ↦ ok
-    ]
+tables_after (CreateIndex index) t h = rows.list_all-map is_table (indexed index) (λ x ok. ok) t.tables h
 
 pub schema_change_keeps : (change : SchemaChange) (t : Tables) → are_tables t ≡ true → allows change (catalog_of t) ≡ true → are_tables (after_alter change t) ≡ true
 schema_change_keeps change t ok allowed =

@@ -14,7 +14,7 @@ use Rattle.wat_value.specs.declared.definition.IndexDef.{IndexDef}
 use Rattle.wat_value.specs.declared.change.SchemaChange.{SchemaChange}
 use Rattle.wat_value.specs.declared.change.SchemaChange.TheVariants.{CreateTable, DropTable, CreateIndex}
 use Rattle.wat_schema.specs.Catalog.{Name, Catalog, Listing, empty_catalog, ascend, in_order, numbers_of, names_of, has_name, has_number, listing_at, repeats}
-use Rattle.wat_schema.specs.Definitions.{allows, allows_table, allows_index, altered, are_columns, bad_index, is_definition, with_index}
+use Rattle.wat_schema.specs.Definitions.{allows, allows_index, allows_table, altered, bad_index, is_definition, with_index}
 use Rattle.wat_schema.specs.Stored.{IsCatalog, are_indexes, index_names, is_index, is_whole}
 use Rattle.wat_schema.proofs.Again.{good_of, same_rules, changed_here, names_of_one, list_any-names}
 use Rattle.wat_schema.proofs.Distinct.{found_at, ascend_distinct, distinct_filter, distinct_insert, distinct_push, fresh_after, list_all-filter, filter_shorter}
@@ -96,9 +96,7 @@ whole_more t index whole may table =
     let few = may.few in
     let long = length_push t.indexes index in
     let number : index.number ≡ 1 + length t.indexes = may.next ∙ ap suc (greatest_of t.def 0 t.indexes good.indexes) ∙ omega arith in
-    let right : is_index t.def index ≡ true =
-    and_from (are_columns t.def.columns index.columns) (is_none (bad_index (unindexed t.def) index.columns)) may.columns
-    (ap is_none (sym (same_rules t.def t.indexes index.columns few)) ∙ may.right) in
+    let right : is_index t.def index ≡ true = ap is_none (sym (same_rules t.def t.indexes index.columns few)) ∙ may.right in
     and_from (is_definition false t.def && nat_le (length (t.indexes ++ index ∷ [])) 8) (are_indexes t.def 1 (t.indexes ++ index ∷ []))
     (and_from (is_definition false t.def) (nat_le (length (t.indexes ++ index ∷ [])) 8) good.definition (le-leb (length (t.indexes ++ index ∷ [])) 8 (omega arith)))
     (indexes_push t.def 1 t.indexes index good.indexes number table right)

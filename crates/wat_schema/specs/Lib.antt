@@ -1,4 +1,7 @@
 pub mod Catalog
+pub mod Changes
 pub mod Definitions
-pub mod Tables
+pub mod Kept
+pub mod Making
 pub mod Stored
+pub mod Tables

@@ -5,7 +5,7 @@ use Rattle.std.specs.Str.{bytes_eq}
 use Rattle.wat_value.specs.declared.definition.TableDef.{TableDef}
 use Rattle.wat_value.specs.declared.definition.IndexDef.{IndexDef}
 use Rattle.wat_schema.specs.Catalog.{Name, Catalog, Listing, in_order, names_of, repeats}
-use Rattle.wat_schema.specs.Definitions.{are_columns, bad_index, is_definition}
+use Rattle.wat_schema.specs.Definitions.{bad_index, is_definition}
 
 -- the definitions of the tables, by number
 abbrev pub defs_of : Catalog → List TableDef
@@ -18,9 +18,9 @@ indexes_of c = flat_map (λ t. t.indexes) c.tables
 abbrev pub index_names : List Listing → List Name
 index_names tables = flat_map (λ t. map (λ index. index.name) t.indexes) tables
 
--- The columns are the table's, and no rule is broken.
+-- no rule is broken by the index, whichever others stand
 abbrev pub is_index : TableDef → IndexDef → Bool
-is_index def index = are_columns def.columns index.columns && is_none (bad_index (record { def = def; indexes = [] }) index.columns)
+is_index def index = is_none (bad_index (record { def = def; indexes = [] }) index.columns)
 
 -- The indexes are the table's, their numbers count on, and each is well defined.
 abbrev pub are_indexes : TableDef → ℕ → List IndexDef → Bool

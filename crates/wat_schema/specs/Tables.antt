@@ -1,8 +1,8 @@
 -- Tables with their rows, and what an act makes of them.
-use Rattle.std.specs.Prelude.{ℕ, ◌+◌, ◌==◌, ◌&&◌, not, Bool, true, List, [], ◌∷◌, ◌++◌, map, Option, Some, None, if◌then◌else◌}
+use Rattle.std.specs.Prelude.{◌≡◌, ℕ, ◌+◌, ◌==◌, ◌&&◌, not, Bool, true, List, [], ◌∷◌, ◌++◌, map, Option, Some, None, is_some, if◌then◌else◌}
 use Rattle.std.specs.List.{find, filter, list_any, list_all}
 use Rattle.std.specs.Option.{option_map, option_and_then}
-use Rattle.std.specs.Ordering.{is_lt, is_gt, eq_by_cmp}
+use Rattle.std.specs.Ordering.{is_lt, is_gt}
 use Rattle.std.specs.declared.cmp.Ordering.{Ordering}
 use Rattle.wat_value.specs.declared.value.Value.{Value}
 use Rattle.wat_value.specs.declared.definition.TableDef.{TableDef}
@@ -13,10 +13,12 @@ use Rattle.wat_value.specs.declared.change.SchemaChange.{SchemaChange}
 use Rattle.wat_value.specs.declared.change.SchemaChange.TheVariants.{CreateTable, DropTable, CreateIndex}
 use Rattle.wat_value.specs.declared.change.Act.{Act}
 use Rattle.wat_value.specs.declared.change.Act.TheVariants.{OnRow, OnSchema}
-use Rattle.wat_value.specs.Order.{key_cmp}
+pub use Rattle.wat_list.specs.Rising.{rising}
+use Rattle.wat_value.specs.Order.{key_cmp, key_eq}
 use Rattle.wat_value.specs.Fits.{fits, key_of}
 use Rattle.wat_schema.specs.Catalog.{Catalog, Listing, in_order}
-use Rattle.wat_schema.specs.Definitions.{allows}
+use Rattle.wat_schema.specs.Definitions.{allows, with_index}
+use Rattle.wat_schema.specs.Stored.{IsCatalog}
 
 abbrev pub Row : Type 0
 Row = List Value
@@ -55,30 +57,38 @@ rows_at t number = rows_or_none (table_at t number)
 
 -- two rows have the same values
 abbrev pub row_eq : Row → Row → Bool
-row_eq = eq_by_cmp key_cmp
+row_eq = key_eq
 
 -- two rows by their primary keys
 abbrev pub by_key : TableDef → Row → Row → Ordering
 by_key def a b = key_cmp (key_of def a) (key_of def b)
 
+-- the row of the table with the key
+abbrev pub row_with : Table → List Value → Option Row
+row_with x key = find (λ row. key_eq (key_of x.def row) key) x.rows
+
+-- the row with the key in the table with the number
+abbrev pub row_at : Tables → ℕ → List Value → Option Row
+row_at t number key = option_and_then (λ x. row_with x key) (table_at t number)
+
 abbrev pub has_key : Table → List Value → Bool
-has_key x key = list_any (λ row. row_eq (key_of x.def row) key) x.rows
+has_key x key = is_some (row_with x key)
 
 abbrev pub has_row : Table → Row → Bool
 has_row x row = list_any (row_eq row) x.rows
 
--- the row between those with lesser and those with greater keys
-abbrev pub put : TableDef → Row → List Row → List Row
-put def row rows = filter (λ other. is_lt (by_key def other row)) rows ++ row ∷ filter (λ other. is_gt (by_key def other row)) rows
+-- the rows with this one between those with lesser and those with greater keys
+abbrev pub with_row : TableDef → Row → List Row → List Row
+with_row def row rows = filter (λ other. is_lt (by_key def other row)) rows ++ row ∷ filter (λ other. is_gt (by_key def other row)) rows
 
 -- Insert applies where the row passes the column tests and no row has its key.
 abbrev pub after_insert : Row → Table → Option Table
-after_insert row x = if fits x.def row && not (has_key x (key_of x.def row)) then Some (record x { rows = put x.def row x.rows }) else None
+after_insert row x = if fits x.def row && not (has_key x (key_of x.def row)) then Some (record x { rows = with_row x.def row x.rows }) else None
 
 -- Update applies where `before` stands and `after` has the same key and passes the column tests.
 abbrev pub after_update : Row → Row → Table → Option Table
 after_update before after x =
-    if has_row x before && row_eq (key_of x.def before) (key_of x.def after) && fits x.def after
+    if has_row x before && key_eq (key_of x.def before) (key_of x.def after) && fits x.def after
     then Some (record x { rows = map (λ row. if row_eq row before then after else row) x.rows }) else None
 
 -- Delete applies where `before` stands.
@@ -98,14 +108,15 @@ apply_change (Insert table row) = on_table table (after_insert row)
 apply_change (Update table before after) = on_table table (after_update before after)
 apply_change (Delete table before) = on_table table (after_delete before)
 
-abbrev pub with_index : IndexDef → Table → Table
-with_index index x = if index.table == x.def.number then record x { indexes = x.indexes ++ index ∷ [] } else x
+-- the table, with the index where it is one of its own
+abbrev pub indexed : IndexDef → Table → Table
+indexed index x = record x { indexes = (with_index index (listing_of x)).indexes }
 
 -- the tables after a schema change
 abbrev pub after_alter : SchemaChange → Tables → Tables
 after_alter (CreateTable def) t = record { tables = t.tables ++ record { def = def; indexes = []; rows = [] } ∷ []; next = t.next + 1 }
 after_alter (DropTable table) t = record t { tables = filter (λ x. not (table == x.def.number)) t.tables }
-after_alter (CreateIndex index) t = record t { tables = map (with_index index) t.tables }
+after_alter (CreateIndex index) t = record t { tables = map (indexed index) t.tables }
 
 -- the tables after an act that applies
 abbrev pub apply : Act → Tables → Option Tables
@@ -123,12 +134,7 @@ inverse (Insert table row) = Delete table row
 inverse (Update table before after) = Update table after before
 inverse (Delete table before) = Insert table before
 
--- ---- tables in their order
-
--- each row is before all later ones
-abbrev pub rising : {X : Type 0} → (X → X → Ordering) → List X → Bool
-rising cmp [] = true
-rising cmp (x ∷ xs) = list_all (λ other. is_lt (cmp x other)) xs && rising cmp xs
+-- ---- the tables of a database
 
 -- The rows fit the definition, and stand in key order with distinct keys.
 abbrev pub is_table : Table → Bool
@@ -137,3 +143,8 @@ is_table x = list_all (fits x.def) x.rows && rising (by_key x.def) x.rows
 -- Such tables stand in the order of their numbers, below the next one.
 abbrev pub are_tables : Tables → Bool
 are_tables t = in_order (catalog_of t) && list_all is_table t.tables
+
+-- What holds of the tables of a database: the schema is a catalog, and of each table the rows fit its definition and stand in key order with distinct keys.
+pub record IsTables (t : Tables) : Type 0 where
+  pub catalog : IsCatalog (catalog_of t)
+  pub rows : list_all is_table t.tables ≡ true

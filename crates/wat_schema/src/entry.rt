@@ -3,7 +3,7 @@ ghost use Rattle.std.specs.Option.{option_copied};
 ghost use Rattle.wat_schema.specs.Catalog.{index_of, ordinal, repeats};
 ghost use Rattle.wat_schema.specs.Definitions.{allows_index_here, bad_index, next_index, same_name};
 
-use crate::rules::{are_columns, may_be_null, repeats, width_at};
+use crate::rules::{are_bad_columns, may_be_null, width_at};
 use indexmap::IndexSet;
 use std::alloc::Global;
 use std::marker::Model;
@@ -11,7 +11,7 @@ use wat_list::{Items, NoMemory};
 use wat_value::{IndexDef, IndexDefs, Ordinals, TableDef};
 
 /// A table of the schema with its indexes.
-#[derive(Debug, Drop)]
+#[derive(Drop)]
 pub struct Entry {
     def: TableDef,
     indexes: IndexDefs,
@@ -22,7 +22,7 @@ pub struct Entry {
 impl Model for Entry {
     ghost use Rattle.std.specs.Prelude.{map, string_bytes};
     ghost use Rattle.wat_schema.specs.Catalog.{Listing};
-    ghost use Rattle.wat_schema.specs.Definitions.{IsEntry};
+    ghost use Rattle.wat_schema.specs.Kept.{IsEntry};
 
     ghost Value = { Listing };
 
@@ -95,13 +95,13 @@ impl Entry {
     {
         let columns = columns.as_slice();
         let all = self.def.columns.as_slice();
-        if repeats(columns) {
+        if are_bad_columns(all, columns) {
             return Some(1);
         }
         if may_be_null(all, columns) {
             return Some(2);
         }
-        if columns.len() > 16 {
+        if columns.is_empty() || columns.len() > 16 {
             return Some(3);
         }
         if width_at(all, columns) + width_at(all, self.def.key.as_slice()) > 900 {
@@ -118,9 +118,7 @@ impl Entry {
     pub fn allows_index(&self, index: &IndexDef) -> bool
         ensures { result ≡ allows_index_here index.now self.now }
     {
-        index.number == self.next_index()
-            && are_columns(self.def.columns.as_slice(), index.columns.as_slice())
-            && self.bad_index(&index.columns).is_none()
+        index.number == self.next_index() && self.bad_index(&index.columns).is_none()
     }
 
     pub fn push_index(&mut self, index: IndexDef) -> Result<(), NoMemory>

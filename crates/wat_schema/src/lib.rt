@@ -9,6 +9,9 @@ mod refusal;
 mod rules;
 mod schema;
 
-pub use laws::{inverse_law, order_law, stored_law};
+pub use laws::{
+    change_law, inverse_law, look_up_law, order_law, same_law, stored_law, swap_law, tables_law,
+    width_law,
+};
 pub use refusal::Refusal;
 pub use schema::Schema;

@@ -10,7 +10,7 @@ use wat_list::NoMemory;
 /// The names of all indexes, each with the number of its table.
 ///
 /// Contracts see the pairs, and how many more are taken without asking for memory.
-#[derive(Debug, Drop)]
+#[derive(Drop)]
 pub struct Owners {
     tables: IndexMap<String, u32>,
 }

@@ -3,7 +3,9 @@ ghost use Rattle.std.specs.Prelude.{◌≡◌, ◌+◌, ◌≤◌, nat_lt, [], �
 ghost use Rattle.std.specs.List.{list_any};
 ghost use Rattle.std.specs.Str.{bytes_eq};
 ghost use Rattle.wat_schema.specs.Catalog.{repeats};
-ghost use Rattle.wat_schema.specs.Definitions.{are_columns, bad_definition, in_table_order, is_bad_key, is_bad_length, is_definition, is_missing, is_nullable, may_be_null, number_named, same_name, width, width_at, width_of, widths};
+ghost use Rattle.wat_value.specs.Widths.{width, width_at, width_of, widths};
+ghost use Rattle.wat_schema.specs.Definitions.{bad_definition, is_bad_key, is_bad_length, is_definition, lacks_column, may_be_null, number_named, same_name, takes_null};
+ghost use Rattle.wat_schema.specs.Making.{in_table_order};
 
 use std::alloc::Global;
 use wat_list::{Items, NoMemory};
@@ -68,8 +70,8 @@ pub fn repeats<T: Eq>(items: &[T]) -> bool
     false
 }
 
-fn is_nullable(columns: &[Column], i: usize) -> bool
-    ensures { result ≡ is_nullable (slice_get columns.now i) }
+fn takes_null(columns: &[Column], i: usize) -> bool
+    ensures { result ≡ takes_null (slice_get columns.now i) }
 {
     match columns.get(i) {
         Some(column) => column.nullable,
@@ -81,7 +83,7 @@ fn is_nullable(columns: &[Column], i: usize) -> bool
 pub fn may_be_null(columns: &[Column], numbers: &[u8]) -> bool
     ensures { result ≡ may_be_null columns.now numbers.now }
 {
-    numbers.iter().any(|i| is_nullable(columns, *i as usize))
+    numbers.iter().any(|i| takes_null(columns, *i as usize))
 }
 
 /// Whether the length of a column's texts is out of range.
@@ -166,7 +168,7 @@ fn key_width(columns: &[Column], key: &[usize]) -> u32
 }
 
 fn is_beyond(columns: &[Column], key: &[usize]) -> bool
-    ensures { result ≡ is_missing columns.now key.now }
+    ensures { result ≡ lacks_column columns.now key.now }
 {
     key.iter().any(|i| columns.len() <= *i)
 }
@@ -183,6 +185,9 @@ fn bad_key(is_full: bool, columns: &[Column], key: &[usize]) -> Option<u8>
     requires { repeats same_name columns.now ≡ false }
     ensures { result ≡ bad_definition is_full columns.now (key.now ∷ []) }
 {
+    if key.is_empty() {
+        return Some(2);
+    }
     if is_bad_key(columns, key) {
         return Some(3);
     }
@@ -226,17 +231,17 @@ pub fn bad_table(
     }
 }
 
-fn is_missing(columns: &[Column], numbers: &[u8]) -> bool
-    ensures { result ≡ is_missing columns.now numbers.now }
+fn lacks_column(columns: &[Column], numbers: &[u8]) -> bool
+    ensures { result ≡ lacks_column columns.now numbers.now }
 {
     numbers.iter().any(|i| columns.len() <= *i as usize)
 }
 
-/// Whether the numbers are those of columns, and at least one is given.
-pub fn are_columns(columns: &[Column], numbers: &[u8]) -> bool
-    ensures { result ≡ are_columns columns.now numbers.now }
+/// Whether a number comes twice, or is that of no column.
+pub fn are_bad_columns(columns: &[Column], numbers: &[u8]) -> bool
+    ensures { result ≡ is_bad_key columns.now numbers.now }
 {
-    numbers.len() > 0 && !is_missing(columns, numbers)
+    repeats(numbers) || lacks_column(columns, numbers)
 }
 
 /// Whether a rule is broken by a table with these columns and this primary key.
@@ -246,10 +251,10 @@ fn breaks_a_rule(is_full: bool, columns: &[Column], key: &[u8]) -> bool
     if repeats_name(columns) {
         return true;
     }
-    if repeats(key) {
+    if key.is_empty() {
         return true;
     }
-    if is_missing(columns, key) {
+    if are_bad_columns(columns, key) {
         return true;
     }
     if columns.len() > 64 {
@@ -276,7 +281,7 @@ pub fn is_definition(is_full: bool, def: &TableDef) -> bool
 {
     let columns = def.columns.as_slice();
     let key = def.key.as_slice();
-    are_columns(columns, key) && !may_be_null(columns, key) && !breaks_a_rule(is_full, columns, key)
+    !may_be_null(columns, key) && !breaks_a_rule(is_full, columns, key)
 }
 
 /// Whether no index comes before one of a lower table.

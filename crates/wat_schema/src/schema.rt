@@ -3,7 +3,8 @@ ghost use Rattle.std.specs.List.{flat_map};
 ghost use Rattle.std.specs.Option.{option_copied, option_map};
 ghost use Rattle.wat_value.specs.declared.change.SchemaChange.TheVariants as change;
 ghost use Rattle.wat_schema.specs.Catalog.{Catalog, column_at, def_at, empty_catalog, has_index_named, in_order, index_at, listing_at, table_named};
-ghost use Rattle.wat_schema.specs.Definitions.{allows, allows_index, allows_table, altered, bad_index_at, bad_table, catalog_from, is_full, made_from, next_index_at, numbered_from, with_indexes_of, with_tables_of};
+ghost use Rattle.wat_schema.specs.Definitions.{allows, allows_index, allows_table, altered, bad_index_at, bad_table, is_full, next_index_at};
+ghost use Rattle.wat_schema.specs.Making.{catalog_from, made_from, numbered_from, with_indexes_of, with_tables_of};
 ghost use Rattle.wat_schema.specs.Stored.{IsCatalog, IsStored, defs_of, indexes_of};
 
 use crate::entry::Entry;
@@ -18,7 +19,7 @@ use wat_value::{Columns, IndexDef, IndexDefs, Name, Ordinals, SchemaChange, Tabl
 /// The tables by number with their indexes, and the next table number.
 ///
 /// A name is given by its characters. One with a capital is the name of nothing.
-#[derive(Debug, Drop)]
+#[derive(Drop)]
 pub struct Schema {
     entries: Vec<Entry>,
     /// The numbers of the tables, each at the place of its entry.
@@ -32,7 +33,7 @@ pub struct Schema {
 impl Model for Schema {
     ghost use Rattle.std.specs.Prelude.{map, string_bytes};
     ghost use Rattle.wat_schema.specs.Catalog.{Catalog};
-    ghost use Rattle.wat_schema.specs.Definitions.{IsKept, IsOwned};
+    ghost use Rattle.wat_schema.specs.Kept.{IsKept, IsOwned};
     ghost use Rattle.wat_schema.specs.Stored.{IsCatalog};
 
     ghost Value = { Catalog };
@@ -179,6 +180,14 @@ impl Schema {
         self.next
     }
 
+    /// Every schema is a catalog. The call does nothing: it tells so.
+    pub fn catalog_law(&self)
+        ensures { IsCatalog self.now }
+    {
+        // What a schema keeps is known where one of its fields is read.
+        let _next = self.next;
+    }
+
     fn entry_at(&self, i: usize) -> Option<&Entry>
         ensures { option_copied result ≡ slice_get self.now.tables i }
     {
@@ -263,7 +272,7 @@ impl Schema {
     }
 
     /// The smallest rule of tables that is broken by one with these columns. `keys` are its primary
-    /// keys, each by the names of its columns.
+    /// keys, each by the names of its columns; a name that no column has breaks a rule.
     pub fn bad_table(
         &self,
         columns: &Columns,
@@ -275,7 +284,8 @@ impl Schema {
         bad_table(alloc, self.is_full(), columns.as_slice(), keys.as_slice())
     }
 
-    /// The smallest rule of indexes that is broken by one of the table over these columns.
+    /// The smallest rule of indexes that is broken by one of the table over these columns; a number
+    /// that is no column's breaks a rule. None too where no table has the number.
     pub fn bad_index(&self, table: u32, columns: &Ordinals) -> Option<u8>
         ensures { result ≡ bad_index_at self.now table columns.now }
     {
@@ -318,12 +328,12 @@ impl Schema {
         ensures kept { OnErr result (self.new ≡ self.old) }
     {
         let alloc = *self.entries.allocator();
-        let name = String::from_str(alloc, def.name.as_str())?;
-        let copy = def.copy(alloc)?;
-        let entry = Entry::new(alloc, copy)?;
         self.entries.reserve(1)?;
         self.numbers.reserve(1)?;
         self.names.reserve(1)?;
+        let name = String::from_str(alloc, def.name.as_str())?;
+        let copy = def.copy(alloc)?;
+        let entry = Entry::new(alloc, copy)?;
         self.entries.push_reserved(entry);
         match self.numbers.insert(def.number) {
             Ok(_) => {}

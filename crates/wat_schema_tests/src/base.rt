@@ -1,13 +1,13 @@
 //! What each step does and says.
 
-use crate::making::{index, ordinals, table};
+use crate::making::{columns, index, names, numbers, ordinals, table};
 use std::alloc::{AllocError, Global};
 use wat_list::Items;
 use wat_schema::Schema;
 use wat_value::{IndexDefs, SchemaChange, TableDefs};
 
 /// A schema, and lists of definitions to make the next one of.
-#[derive(Debug, Drop)]
+#[derive(Drop)]
 pub(crate) struct Base {
     schema: Schema,
     defs: TableDefs,
@@ -100,6 +100,40 @@ impl Base {
             "index_at" => Ok(Some(self.said_index(alloc, table, number)?)),
             _ => Ok(None),
         }
+    }
+
+    /// The rule that a table with these columns breaks, as in `k,v=20/k`: its keys follow, each behind
+    /// a `/`.
+    fn broken_by_table(&self, alloc: Global, text: &str) -> anyhow::Result<Option<u8>> {
+        let mut parts = text.split('/');
+        let columns = columns(alloc, parts.next().unwrap_or(""))?;
+        let mut keys = Items::new(alloc);
+        for part in parts {
+            keys.push(names(alloc, part)?)?;
+        }
+        Ok(self.schema.bad_table(&columns, &keys)?)
+    }
+
+    /// The rule that an index of the table over these columns breaks, as in `0,1`.
+    fn broken_by_index(&self, alloc: Global, table: u32, text: &str) -> anyhow::Result<Option<u8>> {
+        let columns = numbers(alloc, text)?;
+        Ok(self.schema.bad_index(table, &columns))
+    }
+
+    /// Which rule is broken, or None where the step asks for none.
+    pub(crate) fn broken(
+        &self,
+        alloc: Global,
+        step: &str,
+        table: u32,
+        text: &str,
+    ) -> anyhow::Result<Option<String>> {
+        let rule = match step {
+            "bad_table" => self.broken_by_table(alloc, text)?,
+            "bad_index" => self.broken_by_index(alloc, table, text)?,
+            _ => return Ok(None),
+        };
+        Ok(Some(format!(in alloc; "{rule:?}")?))
     }
 
     fn list_table(&mut self, alloc: Global, number: u32, text: &str) -> anyhow::Result<()> {

@@ -29,6 +29,9 @@ fn said(
     if let Some(said) = base.found(alloc, step, table, number, text)? {
         return Ok(said);
     }
+    if let Some(said) = base.broken(alloc, step, table, text)? {
+        return Ok(said);
+    }
     if base.list(alloc, step, table, number, text)? {
         Ok(String::from_str(alloc, "listed")?)
     } else {

@@ -2,7 +2,7 @@
 
 use std::alloc::{AllocError, Global};
 use wat_list::Items;
-use wat_value::{Column, IndexDef, Kind, Name, Ordinals, TableDef};
+use wat_value::{Column, Columns, IndexDef, Kind, Name, Ordinals, TableDef};
 
 fn name(alloc: Global, text: &str) -> anyhow::Result<Name> {
     match Name::new(alloc, text)? {
@@ -18,6 +18,48 @@ fn column(alloc: Global, text: &str, nullable: bool) -> anyhow::Result<Column> {
         kind: Kind::Integer,
         nullable,
     })
+}
+
+/// A column of integers, as in `k`, or of texts of at most a length, as in `v=20`.
+fn described(alloc: Global, text: &str) -> anyhow::Result<Column> {
+    let mut column = column(alloc, text.split('=').next().unwrap_or(text), false)?;
+    if let Some((_, length)) = text.split_once('=') {
+        let most: u16 = length.parse()?;
+        column.kind = Kind::Varchar(most);
+    }
+    Ok(column)
+}
+
+/// The columns that a text lists, as in `k,v=20`.
+pub(crate) fn columns(alloc: Global, text: &str) -> anyhow::Result<Columns> {
+    let mut columns = Items::new(alloc);
+    for part in text.split(',') {
+        columns.push(described(alloc, part)?)?;
+    }
+    Ok(columns)
+}
+
+/// The names that a text lists, as in `k,v`; `-` lists none.
+pub(crate) fn names(alloc: Global, text: &str) -> anyhow::Result<Items<Name>> {
+    let mut names = Items::new(alloc);
+    if text != "-" {
+        for part in text.split(',') {
+            names.push(name(alloc, part)?)?;
+        }
+    }
+    Ok(names)
+}
+
+/// The numbers that a text lists, as in `0,1`; `-` lists none.
+pub(crate) fn numbers(alloc: Global, text: &str) -> anyhow::Result<Ordinals> {
+    let mut numbers = Items::new(alloc);
+    if text != "-" {
+        for part in text.split(',') {
+            let number: u8 = part.parse()?;
+            numbers.push(number)?;
+        }
+    }
+    Ok(numbers)
 }
 
 /// A column's number, so many times.

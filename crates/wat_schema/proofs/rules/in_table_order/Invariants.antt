@@ -1,5 +1,5 @@
 use Rattle.std.proofs.Common.{◌≡◌, length}
-use Rattle.wat_schema.specs.Definitions.{in_table_order}
+use Rattle.wat_schema.specs.Making.{in_table_order}
 use Rattle.wat_schema.proofs.rules.in_table_order.Given as goal
 
 abbrev pub invariant-loop-first : goal.invariant-loop-first

@@ -1,5 +1,5 @@
 use Rattle.std.proofs.Common.{◌≡◌, ◌≤◌, ◌*◌, take}
-use Rattle.wat_schema.specs.Definitions.{width_at}
+use Rattle.wat_value.specs.Widths.{width_at}
 use Rattle.wat_schema.proofs.rules.key_width.Given as goal
 
 abbrev pub invariant-loop-i : goal.invariant-loop-i

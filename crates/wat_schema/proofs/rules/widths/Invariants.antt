@@ -1,5 +1,5 @@
 use Rattle.std.proofs.Common.{◌≡◌, ◌≤◌, ◌*◌, take}
-use Rattle.wat_schema.specs.Definitions.{widths}
+use Rattle.wat_value.specs.Widths.{widths}
 use Rattle.wat_schema.proofs.rules.widths.Given as goal
 
 abbrev pub invariant-loop-column : goal.invariant-loop-column

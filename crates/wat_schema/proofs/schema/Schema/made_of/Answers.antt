@@ -1,7 +1,7 @@
 use Rattle.std.proofs.Common.{◌≤◌, length, ap, arith}
 use Rattle.std.specs.Option.{option_and_then}
 use Rattle.wat_schema.specs.Catalog.{empty_catalog}
-use Rattle.wat_schema.specs.Definitions.{followed_by, with_indexes_of, with_tables_of}
+use Rattle.wat_schema.specs.Making.{followed_by, with_indexes_of, with_tables_of}
 use Rattle.wat_schema.proofs.Stored.{tables_on, tables_stop, indexes_on, indexes_stop, not_followed}
 use Rattle.wat_schema.proofs.schema.Schema.made_of.Goals as goal
 

@@ -1,7 +1,7 @@
 use Rattle.std.proofs.Common.{◌≡◌, drop}
 use Rattle.std.specs.Option.{option_and_then}
 use Rattle.wat_schema.specs.Catalog.{empty_catalog}
-use Rattle.wat_schema.specs.Definitions.{with_tables_of, with_indexes_of}
+use Rattle.wat_schema.specs.Making.{with_tables_of, with_indexes_of}
 use Rattle.wat_schema.proofs.schema.Schema.made_of.Given as goal
 
 abbrev pub invariant-loop-i : goal.invariant-loop-i
