@@ -1,11 +1,5 @@
-pub mod BareLemmas
+pub mod AgainLemmas
+pub mod AllowedLemmas
 pub mod ChangeLemmas
-pub mod Chains
 pub mod CheckLemmas
-pub mod ColumnLemmas
-pub mod Firsts
-pub mod PlaceLemmas
-pub mod RuleLemmas
-pub mod ScopeLemmas
-pub mod Steps
-pub mod TypeLemmas
+pub mod SettledLemmas

@@ -1,6 +1,6 @@
 -- The schema changes that CREATE and DROP make.
-use Rattle.std.specs.Prelude.{ℕ, ℤ, pos, negsuc, nat_lt, Bool, true, false, not, ◌&&◌, List, [], ◌∷◌, map, Option, Some, None, if◌then◌else◌}
-use Rattle.std.specs.List.{list_any, flat_map, filter_map, position}
+use Rattle.std.specs.Prelude.{◌≡◌, ℕ, ℤ, pos, negsuc, nat_lt, Bool, true, false, not, ◌&&◌, List, [], ◌∷◌, map, Option, Some, None, IsSomeAnd, if◌then◌else◌}
+use Rattle.std.specs.List.{list_any, flat_map, filter_map}
 use Rattle.std.specs.Option.{option_and_then, option_map}
 use Rattle.std.specs.Str.{bytes_eq}
 use Rattle.wat_value.specs.declared.definition.Kind.{Kind}
@@ -16,7 +16,7 @@ use Rattle.wat_ast.specs.declared.statement.Element.TheVariants as element
 use Rattle.wat_ast.specs.declared.statement.Statement.{Statement}
 use Rattle.wat_ast.specs.declared.statement.Statement.TheVariants.{CreateTable, CreateIndex, DropTable}
 use Rattle.wat_schema.specs.Catalog.{Name, Catalog, table_named, column_at}
-use Rattle.wat_schema.specs.Definitions.{next_index_at}
+use Rattle.wat_schema.specs.Definitions.{number_named, next_index_at, allows}
 
 -- A length that 16 bits don't hold is written as 0, which breaks the same rule.
 abbrev pub length_of : ℤ → ℕ
@@ -50,16 +50,13 @@ unfoldable pub with_key : List Name → Column → Column
 with_key key column =
     record { name = column.name; kind = column.kind; nullable = column.nullable && not (list_any (λ name. bytes_eq name column.name) key) }
 
-unfoldable pub ordinal_in : List Column → Name → Option ℕ
-ordinal_in columns name = position (λ column. bytes_eq column.name name) columns
-
 -- the table of these columns with this primary key
 abbrev pub made_table : ℕ → Name → List Column → List Name → TableDef
 made_table number name columns key = record {
   number = number;
   name = name;
   columns = map (with_key key) columns;
-  key = filter_map (ordinal_in columns) key;
+  key = map (number_named columns) key;
 }
 
 abbrev pub made_index : Catalog → Name → ℕ → List Name → ℕ → SchemaChange
@@ -84,3 +81,7 @@ changes_schema (CreateTable name elements) = true
 changes_schema (CreateIndex name table columns) = true
 changes_schema (DropTable name) = true
 changes_schema s = false
+
+-- The statement is a CREATE or DROP whose change the schema allows.
+abbrev pub IsAllowed : Catalog → Statement → Type 0
+IsAllowed c s = IsSomeAnd (change_of c s) (λ change. allows change c ≡ true)

@@ -1,12 +1,12 @@
-ghost use Rattle.std.specs.Prelude.{◌≡◌, ◌++◌, map, IsSome, IfOk, OnOk};
-ghost use Rattle.std.specs.List.{filter_map, flat_map, list_any};
+ghost use Rattle.std.specs.Prelude.{◌≡◌, ◌<◌, ◌≤◌, ◌++◌, true, length, map, option_to_list, IfOk, IfSome, OnOk};
+ghost use Rattle.std.specs.List.{filter_map, flat_map, list_any, position};
 ghost use Rattle.std.specs.Option.{option_map};
 ghost use Rattle.std.specs.Str.{bytes_eq};
-ghost use Rattle.wat_walk.specs.Queries.{maybe};
-ghost use Rattle.wat_rules.specs.Changes.{length_of, kind_of, column_of, key_of, keys_of, numbers_named, with_key, ordinal_in, made_table, index_change, change_of};
+ghost use Rattle.wat_rules.specs.Changes.{length_of, kind_of, column_of, key_of, keys_of, numbers_named, with_key, made_table, index_change, change_of, IsAllowed};
 ghost use Rattle.wat_schema.specs.Catalog.{column_at, table_named};
+ghost use Rattle.wat_schema.specs.Definitions.{number_named, allows};
 
-use std::alloc::{AllocError, Global};
+use std::alloc::Global;
 use wat_ast::{Element, Name, Names, Statement, TypeName};
 use wat_list::{Copied, Items, NoMemory};
 use wat_schema::Schema;
@@ -29,7 +29,7 @@ fn kind_of(name: TypeName) -> Kind
 }
 
 fn add_column(alloc: Global, element: &Element, columns: &mut Columns) -> Result<(), NoMemory>
-    ensures { OnOk result (columns.new ≡ columns.old ++ maybe (column_of element.now)) }
+    ensures { OnOk result (columns.new ≡ columns.old ++ option_to_list (column_of element.now)) }
 {
     match element {
         Element::Column {
@@ -63,7 +63,7 @@ pub fn columns_of_elements(alloc: Global, elements: &[Element]) -> Result<Column
 }
 
 fn add_key(alloc: Global, element: &Element, keys: &mut Items<Names>) -> Result<(), NoMemory>
-    ensures { OnOk result (keys.new ≡ keys.old ++ maybe (key_of element.now)) }
+    ensures { OnOk result (keys.new ≡ keys.old ++ option_to_list (key_of element.now)) }
 {
     match element {
         Element::Column { name, key, .. } => {
@@ -96,7 +96,7 @@ fn add_number(
     name: &Name,
     numbers: &mut Ordinals,
 ) -> Result<(), NoMemory>
-    ensures { OnOk result (numbers.new ≡ numbers.old ++ maybe (column_at schema.now table name.now)) }
+    ensures { OnOk result (numbers.new ≡ numbers.old ++ option_to_list (column_at schema.now table name.now)) }
 {
     match schema.column(table, name.as_str()) {
         Some(number) => numbers.push(number),
@@ -160,33 +160,33 @@ fn joined_keys(alloc: Global, keys: &[Names]) -> Result<Names, NoMemory>
     Ok(all)
 }
 
-#[tactic(auto, unfolding(crate::specs::Changes::ordinal_in))]
-fn ordinal_in(columns: &[Column], name: &Name) -> Option<usize>
-    ensures { result ≡ ordinal_in columns.now name.now }
+fn position_named(columns: &[Column], name: &Name) -> Option<usize>
+    ensures exact { result ≡ position (λ column. bytes_eq name.now column.name) columns.now }
+    ensures bound { IfSome result (λ i. i < length columns.now) }
 {
     columns
         .iter()
-        .position(|column| column.name.as_str() == name.as_str())
+        .position(|column| name.as_str() == column.name.as_str())
 }
 
-fn add_ordinal(columns: &[Column], name: &Name, ordinals: &mut Ordinals) -> Result<(), NoMemory>
-    ensures { OnOk result (ordinals.new ≡ ordinals.old ++ maybe (ordinal_in columns.now name.now)) }
+// A table that is allowed has no more than 64 columns.
+fn number_named(columns: &[Column], name: &Name) -> u8
+    requires { length columns.now ≤ 64 }
+    ensures { result ≡ number_named columns.now name.now }
 {
-    match ordinal_in(columns, name) {
-        Some(ordinal) => match u8::try_from(ordinal) {
-            Ok(ordinal) => ordinals.push(ordinal),
-            Err(_) => Err(AllocError),
-        },
-        None => Ok(()),
+    match position_named(columns, name) {
+        Some(position) => position as u8,
+        None => columns.len() as u8,
     }
 }
 
 fn key_ordinals(alloc: Global, columns: &[Column], key: &[Name]) -> Result<Ordinals, NoMemory>
-    ensures { IfOk result (λ ordinals. ordinals ≡ filter_map (ordinal_in columns.now) key.now) }
+    requires { length columns.now ≤ 64 }
+    ensures { IfOk result (λ ordinals. ordinals ≡ map (number_named columns.now) key.now) }
 {
     let mut ordinals = Items::new(alloc);
     for name in key {
-        add_ordinal(columns, name, &mut ordinals)?;
+        ordinals.push(number_named(columns, name))?;
     }
     Ok(ordinals)
 }
@@ -197,6 +197,7 @@ fn made_table(
     name: &Name,
     elements: &[Element],
 ) -> Result<TableDef, NoMemory>
+    requires { length (filter_map column_of elements.now) ≤ 64 }
     ensures { IfOk result (λ def. def ≡ made_table number name.now (filter_map column_of elements.now) (flat_map (λ key. key) (keys_of elements.now))) }
 {
     let columns = columns_of_elements(alloc, elements)?;
@@ -247,11 +248,13 @@ fn index_change(
     })))
 }
 
+#[tactic(auto, using(crate::proofs::AllowedLemmas::few_columns))]
 fn change(
     alloc: Global,
     statement: &Statement,
     schema: &Schema,
 ) -> Result<Option<SchemaChange>, NoMemory>
+    requires { IsAllowed schema.now statement.now }
     ensures { IfOk result (λ change. change ≡ change_of schema.now statement.now) }
 {
     match statement {
@@ -269,17 +272,16 @@ fn change(
     }
 }
 
-/// The schema change of CREATE or DROP.
-///
-/// A primary key column of CREATE TABLE with a number past 255 is answered by want of memory; a statement that `check` lets
-/// through has none.
+/// The schema change of a CREATE or DROP that the schema allows, as it does of one that `check` lets
+/// through.
 pub fn change_of(
     alloc: Global,
     statement: &Statement,
     schema: &Schema,
 ) -> Result<SchemaChange, NoMemory>
-    requires { IsSome (change_of schema.now statement.now) }
-    ensures { IfOk result (λ change. change_of schema.now statement.now ≡ Some change) }
+    requires { IsAllowed schema.now statement.now }
+    ensures change { IfOk result (λ change. change_of schema.now statement.now ≡ Some change) }
+    ensures allowed { IfOk result (λ change. allows change schema.now ≡ true) }
 {
     match change(alloc, statement, schema)? {
         Some(change) => Ok(change),

@@ -1,15 +1,14 @@
-ghost use Rattle.std.specs.Prelude.{◌≡◌, true, MatchResult, Ok, Err, IfOk, IsSome};
-ghost use Rattle.wat_rules.specs.Changes.{change_of, changes_schema};
-ghost use Rattle.wat_rules.specs.Refusals.{first};
-ghost use Rattle.wat_rules.specs.Columns.{name_refusals};
+ghost use Rattle.std.specs.Prelude.{◌≡◌, true, MatchResult, Ok, Err, IfOk};
+ghost use Rattle.wat_names.specs.Refusals.{first};
+ghost use Rattle.wat_names.specs.Columns.{name_refusals};
+ghost use Rattle.wat_rules.specs.Changes.{changes_schema, IsAllowed};
 ghost use Rattle.wat_rules.specs.Check.{check, IfRefused};
 
-use crate::columns::{assigned_key, columns_refusal, source_refusal, table_refusal};
-use crate::places::placed_statement;
 use crate::statements::rule_refusal;
 use std::alloc::Global;
 use wat_ast::Statement;
 use wat_list::NoMemory;
+use wat_names::{assigned_key, columns_refusal, placed_statement, source_refusal, table_refusal};
 use wat_schema::{Refusal, Schema};
 
 /// Why a statement is not checked through: it is refused, or memory is wanted.
@@ -20,7 +19,6 @@ pub enum CheckRefusal {
 }
 
 // The first refusal of a name.
-#[tactic(auto, using(crate::proofs::CheckLemmas::first_of_names))]
 fn name_refusal(
     alloc: Global,
     schema: &Schema,
@@ -40,7 +38,6 @@ fn name_refusal(
     assigned_key(alloc, schema, statement)
 }
 
-#[tactic(auto, using(crate::proofs::CheckLemmas::check_is))]
 fn checked(
     alloc: Global,
     schema: &Schema,
@@ -60,16 +57,19 @@ fn checked(
 
 /// The statement with each column in its expressions replaced by its place, or the first refusal.
 ///
-/// The names that INSERT and SET list stay as they are.
-#[tactic(auto, using(crate::proofs::ChangeLemmas::checked_change))]
+/// The names that INSERT and SET list stay as they are. A column of a source past number 4294967295
+/// is answered by want of memory, since a tree has no place for it.
+#[tactic(auto, using(crate::proofs::AgainLemmas::checked_again, crate::proofs::ChangeLemmas::checked_change))]
 pub fn check(
     alloc: Global,
     statement: &Statement,
     schema: &Schema,
 ) -> Result<Statement, CheckRefusal>
     ensures checked { MatchResult result (λ placed. check schema.now statement.now ≡ Ok placed) (IfRefused (λ refusal. check schema.now statement.now ≡ Err refusal)) }
-    // A CREATE or DROP that is let through has its change.
-    ensures change { IfOk result (λ placed. changes_schema placed ≡ true → IsSome (change_of schema.now placed)) }
+    // What is let through stays as it is where it is checked again.
+    ensures again { IfOk result (λ placed. check schema.now placed ≡ Ok placed) }
+    // The schema allows the change of a CREATE or DROP that is let through.
+    ensures change { IfOk result (λ placed. changes_schema placed ≡ true → IsAllowed schema.now placed) }
 {
     match checked(alloc, schema, statement) {
         Ok(Ok(placed)) => Ok(placed),

@@ -1,13 +1,14 @@
 ghost use Rattle.std.specs.Prelude.{◌≡◌, IfOk};
-ghost use Rattle.wat_rules.specs.Refusals.{first};
-ghost use Rattle.wat_rules.specs.Rules.{table_rule, index_rule, given_rule, wrong_type, bad_table_refusals, bad_index_refusals, rule_refusals};
+ghost use Rattle.wat_names.specs.Refusals.{first};
+ghost use Rattle.wat_typing.specs.Rules.{given_rule};
+ghost use Rattle.wat_rules.specs.Rules.{table_rule, index_rule, wrong_type, bad_table_refusals, bad_index_refusals, rule_refusals};
 
 use crate::changes::{columns_of_elements, keys_of_elements, numbers_named};
-use crate::rules::{answer_given, delete_rule, query_rule, update_rule, values_given};
 use std::alloc::Global;
-use wat_ast::{Element, Expr, InsertSource, Name, Names, Statement};
+use wat_ast::{Element, InsertSource, Name, Names, Statement};
 use wat_list::NoMemory;
 use wat_schema::{Refusal, Schema};
+use wat_typing::{answer_given, delete_rule, query_rule, update_rule, values_given};
 
 #[tactic(auto, unfolding(crate::specs::Rules::table_rule))]
 fn table_rule(alloc: Global, schema: &Schema, elements: &[Element]) -> Result<Option<u8>, NoMemory>

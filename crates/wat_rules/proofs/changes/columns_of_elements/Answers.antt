@@ -1,5 +1,5 @@
 use Rattle.wat_rules.specs.Changes.{column_of}
-use Rattle.wat_rules.proofs.Steps.{filter_map_next}
+use Rattle.wat_typing.proofs.Steps.{filter_map_next}
 use Rattle.wat_rules.proofs.changes.columns_of_elements.Goals as goal
 
 pub loop-element-preserved : goal.loop-element-preserved

@@ -1,5 +1,5 @@
 use Rattle.wat_schema.specs.Catalog.{column_at}
-use Rattle.wat_rules.proofs.Steps.{filter_map_next}
+use Rattle.wat_typing.proofs.Steps.{filter_map_next}
 use Rattle.wat_rules.proofs.changes.numbers_named.Goals as goal
 
 pub loop-name-preserved : goal.loop-name-preserved

@@ -1,6 +1,0 @@
-use Rattle.std.proofs.Common.{◌≡◌, map, take}
-use Rattle.wat_rules.specs.Places.{placed_set}
-use Rattle.wat_rules.proofs.places.placed_sets.Given as goal
-
-abbrev pub invariant-loop-set : goal.invariant-loop-set
-invariant-loop-set l = l.items ≡ map (placed_set l.fn.schema l.fn.scope) (take l.set-index l.fn.sets)

@@ -1,6 +1,0 @@
-use Rattle.std.proofs.Common.{◌≡◌, map, take}
-use Rattle.wat_rules.specs.declared.typing.Typing.{Typing}
-use Rattle.wat_rules.proofs.rules.kinds.Given as goal
-
-abbrev pub invariant-loop-typing : goal.invariant-loop-typing
-invariant-loop-typing l = l.types ≡ map (λ (typing : Typing). typing.kind) (take l.typing-index l.fn.typings)

@@ -1,8 +1,0 @@
-use Rattle.std.proofs.Common.{◌≡◌, take}
-use Rattle.std.specs.List.{flat_map}
-use Rattle.wat_rules.specs.declared.scope.Visible.{Visible}
-use Rattle.wat_rules.specs.Rules.{types_in}
-use Rattle.wat_rules.proofs.rules.scope_types.Given as goal
-
-abbrev pub invariant-loop-visible : goal.invariant-loop-visible
-invariant-loop-visible l = l.types ≡ flat_map (λ (visible : Visible). types_in l.fn.schema visible.table) (take l.visible-index l.visible-items)

@@ -1,6 +1,0 @@
-use Rattle.std.proofs.Common.{◌≡◌, take}
-use Rattle.wat_rules.specs.Rules.{set_names}
-use Rattle.wat_rules.proofs.rules.set_names.Given as goal
-
-abbrev pub invariant-loop-set : goal.invariant-loop-set
-invariant-loop-set l = l.names ≡ set_names (take l.set-index l.fn.sets)

@@ -1,8 +1,0 @@
-use Rattle.std.proofs.Common.{◌≡◌, map, drop}
-use Rattle.std.specs.List.{fold}
-use Rattle.wat_rules.specs.declared.typing.Typing.{Typing}
-use Rattle.wat_rules.specs.Types.{lesser}
-use Rattle.wat_rules.proofs.typing.broken_among.Given as goal
-
-abbrev pub invariant-loop-item : goal.invariant-loop-item
-invariant-loop-item l = fold lesser l.least (map (λ (item : Typing). item.broken) (drop l.item-index l.fn.items)) ≡ fold lesser l.fn.first (map (λ (item : Typing). item.broken) l.fn.items)

@@ -1,6 +1,0 @@
--- What stands in a list of refusals first.
-use Rattle.std.specs.Prelude.{List, [], ◌∷◌, Option, Some, None}
-
-abbrev pub first : {X : Type 0} → List X → Option X
-first [] = None
-first (x ∷ xs) = Some x

@@ -1,0 +1,5 @@
+pub mod AggregateLemmas
+pub mod BareLemmas
+pub mod ChainLemmas
+pub mod RuleLemmas
+pub mod Steps
