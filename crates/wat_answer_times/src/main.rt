@@ -1,10 +1,13 @@
-//! Answers three queries over more and more combinations, and prints how many rows each gives. With
-//! a word on the command line it prints how long each took, too.
+//! Computes chains of a million operators, answers three queries over more and more combinations, and
+//! prints what it finds: a chain takes little of the stack, however long it is. With a word on the
+//! command line it prints how long each query took, too.
 #![tactic(auto)]
 
+mod chains;
 mod queries;
 mod tables;
 
+use crate::chains::{joined_length, sum};
 use crate::queries::{grouped, ordered};
 use crate::tables::{combinations, defs};
 use std::time::Instant;
@@ -24,6 +27,9 @@ fn main(rt: HostRuntime) -> io::Result<()> {
     for _word in env::args(&rt)?.skip(1) {
         timed = true;
     }
+    let sum = sum(alloc, 1_000_000)?;
+    let length = joined_length(alloc, 1_000_000)?;
+    println!(rt; "a million operators: {sum:?}, {length:?}")?;
     let defs = defs(alloc)?;
     for count in [1_000, 10_000, 100_000] {
         let met = combinations(alloc, count)?;

@@ -2,5 +2,4 @@ pub mod Logic
 pub mod Operators
 pub mod Aggregates
 pub mod Evaluation
-pub mod LeftOperand
-pub mod Context
+pub mod Private

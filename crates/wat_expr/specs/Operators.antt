@@ -66,9 +66,13 @@ test Greater = is_gt
 test AtLeast = is_ge
 test op = λ order. false
 
+-- The order of two values in a comparison. It is that of ORDER BY, MIN and MAX as long as no two values that are written otherwise are equal.
+abbrev pub compared_order : Value → Value → Ordering
+compared_order = value_cmp
+
 -- a comparison, which is Unknown where an operand is Null
 abbrev pub comparison : BinaryOp → Outcome → Outcome → Outcome
-comparison op = strictly Unknown (λ v w. truth (test op (value_cmp v w)))
+comparison op = strictly Unknown (λ v w. truth (test op (compared_order v w)))
 
 unfoldable pub binary : BinaryOp → Outcome → Outcome → Outcome
 binary And = conjunction

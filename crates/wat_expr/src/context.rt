@@ -1,6 +1,7 @@
 ghost use Rattle.std.specs.Prelude.{◌≡◌};
 ghost use Rattle.wat_expr.specs.Evaluation.{over, over_group};
-ghost use Rattle.wat_expr.specs.Context.{lent, over_context};
+ghost use Rattle.wat_walk.specs.Lent.{lent};
+ghost use Rattle.wat_expr.specs.Private.{over_context};
 
 use wat_value::Combination;
 

@@ -2,7 +2,8 @@ ghost use Rattle.std.specs.Prelude.{◌≡◌, map, IfOk};
 ghost use Rattle.wat_ast.specs.declared.expression.AggregateKind.{AggregateKind};
 ghost use Rattle.wat_walk.specs.Chain.{IsOperand};
 ghost use Rattle.wat_expr.specs.Operators.{among};
-ghost use Rattle.wat_expr.specs.Context.{lent, over_context};
+ghost use Rattle.wat_walk.specs.Lent.{lent};
+ghost use Rattle.wat_expr.specs.Private.{over_context};
 ghost use Rattle.wat_expr.specs.Evaluation.{outcome_of, over, over_group, value_at, aggregate_over};
 
 use crate::context::Context;

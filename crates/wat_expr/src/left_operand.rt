@@ -1,5 +1,5 @@
 ghost use Rattle.std.specs.Prelude.{◌≡◌, IfOk};
-ghost use Rattle.wat_expr.specs.LeftOperand.{outcome_so_far};
+ghost use Rattle.wat_expr.specs.Private.{outcome_so_far};
 ghost use Rattle.wat_expr.specs.Operators.{binary, concatenation};
 
 use crate::operators::{arithmetic, comparison};

@@ -7,8 +7,6 @@ mod evaluation;
 mod left_operand;
 mod operators;
 mod outcome;
-#[cfg(test)]
-mod tests;
 
 pub use evaluation::{eval, eval_over};
 pub use outcome::Outcome;

@@ -6,7 +6,7 @@ use Rattle.sqlite_trees.specs.Tree.{IsAscending}
 use Rattle.sqlite_keyed.proofs.ListLemmas.{filter-map, filter-filter, filter_all, filter_none, all_weaker}
 use Rattle.wat_value.specs.Order.{key_cmp}
 use Rattle.wat_value.specs.OrderLaws.{key_cmp_total, key_cmp_level, key_cmp_refl}
-use Rattle.wat_group.specs.Order.{key_eq}
+use Rattle.wat_value.specs.Order.{key_eq}
 use Rattle.wat_group.specs.Query.{Row, first_of_each}
 use Rattle.wat_group.proofs.Sorting.{AtMost}
 

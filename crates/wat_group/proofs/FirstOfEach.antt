@@ -8,7 +8,7 @@ use denote.Ref.{Bor}
 use Rattle.sqlite_keyed.proofs.ListLemmas.{filter-filter, filter_all, all_of}
 use Rattle.wat_value.specs.Order.{key_cmp}
 use Rattle.wat_value.specs.OrderLaws.{key_cmp_total}
-use Rattle.wat_group.specs.Order.{key_eq}
+use Rattle.wat_value.specs.Order.{key_eq}
 use Rattle.wat_group.specs.Query.{Row, first_of_each}
 use Rattle.wat_group.proofs.Classes.{key_eq_same}
 

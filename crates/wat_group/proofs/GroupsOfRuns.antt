@@ -10,9 +10,9 @@ use Rattle.wat_value.specs.Order.{key_cmp}
 use Rattle.wat_value.specs.OrderLaws.{key_cmp_total}
 use Rattle.wat_expr.specs.Evaluation.{Combination}
 use Rattle.wat_group.specs.declared.keyed.Keyed.{Keyed}
-use Rattle.wat_group.specs.Order.{key_eq}
+use Rattle.wat_value.specs.Order.{key_eq}
 use Rattle.wat_group.specs.Query.{Row, first_of_each, group_values, group_keys, over_all, groups_at}
-use Rattle.wat_group.specs.Taken.{entry, keyed_as, rows_in, under, classes}
+use Rattle.wat_group.specs.Private.{entry, keyed_as, rows_in, under, classes}
 use Rattle.wat_group.proofs.Keying.{entry_cmp, rows_of_entries, rows_under}
 use Rattle.wat_group.proofs.Sorting.{stable-sort_by}
 

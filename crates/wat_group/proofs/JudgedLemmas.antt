@@ -7,9 +7,9 @@ use Rattle.wat_expr.specs.Evaluation.{Over}
 use Rattle.wat_group.specs.declared.line.Line.{Line}
 use Rattle.wat_group.specs.declared.taken.Taken.{Taken}
 use Rattle.wat_group.specs.declared.judging.Judged.TheVariants.{Failed, Dropped, Kept}
-use Rattle.wat_group.specs.Judged.{judged}
+use Rattle.wat_group.specs.Private.{judged}
 use Rattle.wat_group.specs.Query.{fails_group, is_kept, line_at}
-use Rattle.wat_group.specs.Taken.{over_of}
+use Rattle.wat_group.specs.Private.{over_of}
 
 pub from_dropped : (q : Query) (at : Over) → judged q at ≡ Dropped → (fails_group q at ≡ false) × (is_kept q at ≡ false)
 from_dropped q at is = go (fails_group q at) (is_kept q at) refl refl is

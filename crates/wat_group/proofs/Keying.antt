@@ -8,7 +8,7 @@ use Rattle.wat_value.specs.Order.{key_cmp}
 use Rattle.wat_expr.specs.Evaluation.{Combination}
 use Rattle.wat_group.specs.Query.{Row}
 use Rattle.wat_group.specs.declared.keyed.Keyed.{Keyed}
-use Rattle.wat_group.specs.Taken.{entry, keyed_as, rows_in, under}
+use Rattle.wat_group.specs.Private.{entry, keyed_as, rows_in, under}
 
 abbrev pub entry_cmp : Row × Combination → Row × Combination → Ordering
 entry_cmp a b = key_cmp a.0 b.0

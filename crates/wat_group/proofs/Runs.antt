@@ -7,9 +7,9 @@ use Rattle.sqlite_trees.specs.Tree.{IsAscending}
 use Rattle.wat_expr.specs.Evaluation.{Over, over_group}
 use Rattle.wat_group.specs.declared.keyed.Keyed.{Keyed}
 use Rattle.wat_group.specs.declared.taken.Taken.{Taken}
-use Rattle.wat_group.specs.Order.{key_eq}
+use Rattle.wat_value.specs.Order.{key_eq}
 use Rattle.wat_group.specs.Query.{over_all}
-use Rattle.wat_group.specs.Taken.{over_of, rows_in, IsAtMost, classes}
+use Rattle.wat_group.specs.Private.{over_of, rows_in, IsAtMost, classes}
 use Rattle.wat_group.proofs.Classes.{classes-run, key_eq_refl}
 
 abbrev pub same_key : Keyed → List Keyed → ℕ

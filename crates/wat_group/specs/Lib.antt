@@ -1,5 +1,4 @@
-pub mod Judged
 pub mod Order
 pub mod OrderLaws
+pub mod Private
 pub mod Query
-pub mod Taken

@@ -1,11 +1,10 @@
 -- The order of the lines of a result.
-use Rattle.std.specs.Prelude.{List, Bool}
+use Rattle.std.specs.Prelude.{List}
 use Rattle.std.specs.declared.cmp.Ordering.{Ordering}
 use Rattle.std.specs.declared.cmp.Ordering.TheVariants.{Less, Greater}
 use Rattle.std.specs.Cmp.Lexicographic.{slice_cmp}
-use Rattle.std.specs.Ordering.{eq_by_cmp}
 use Rattle.wat_value.specs.declared.value.Value.{Value}
-use Rattle.wat_value.specs.Order.{value_cmp, key_cmp}
+use Rattle.wat_value.specs.Order.{value_cmp}
 use Rattle.wat_group.specs.declared.line.OrderKey.{OrderKey}
 use Rattle.wat_group.specs.declared.line.OrderKey.TheVariants.{Ascending, Descending}
 
@@ -19,7 +18,3 @@ order_key_cmp (Descending v) (Ascending w) = Greater
 -- by the first ORDER BY item that tells two lines apart
 abbrev pub order_keys_cmp : List OrderKey → List OrderKey → Ordering
 order_keys_cmp = slice_cmp order_key_cmp
-
--- the keys are level, and so the same
-abbrev pub key_eq : List Value → List Value → Bool
-key_eq = eq_by_cmp key_cmp

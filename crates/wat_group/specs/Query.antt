@@ -1,6 +1,6 @@
 -- The answer of a query. Its orders are `sort_by`, which puts each item before the first that is not less: items that are level stay as they stood.
 use Prim.Native.Nat.{zero, suc}
-use Rattle.std.specs.Prelude.{ℤ, pos, negsuc, not, ◌||◌, Bool, List, [], ◌∷◌, ◌++◌, map, length, nat_lt, Option, Some, None, unwrap_or, if◌then◌else◌, slice_index_or}
+use Rattle.std.specs.Prelude.{ℤ, pos, negsuc, not, ◌||◌, Bool, List, [], ◌∷◌, ◌++◌, map, length, nat_lt, Option, Some, None, option_to_list, unwrap_or, if◌then◌else◌, slice_index_or}
 use Rattle.std.specs.List.{filter as where_true, list_any, flat_map, zip}
 use Rattle.std.specs.Option.{option_map_or}
 use Rattle.sqlite_keyed.specs.Lists.{sort_by}
@@ -17,7 +17,7 @@ use Rattle.wat_ast.specs.declared.query.OrderBy.TheVariants as by
 use Rattle.wat_ast.specs.declared.query.OrderItem.{OrderItem}
 use Rattle.wat_ast.specs.declared.query.Query.{Query}
 use Rattle.wat_walk.specs.Parts.{arguments_in}
-use Rattle.wat_walk.specs.Queries.{maybe, listed, is_grouped}
+use Rattle.wat_walk.specs.Queries.{listed, is_grouped}
 use Rattle.wat_expr.specs.declared.outcome.Outcome.{Outcome}
 use Rattle.wat_expr.specs.declared.outcome.Outcome.TheVariants.{Is, True, Error}
 use Rattle.wat_expr.specs.Logic.{is_true, is_error}
@@ -27,7 +27,8 @@ use Rattle.wat_group.specs.declared.answer.Finished.TheVariants.{Rows, Arithmeti
 use Rattle.wat_group.specs.declared.line.Line.{Line}
 use Rattle.wat_group.specs.declared.line.OrderKey.{OrderKey}
 use Rattle.wat_group.specs.declared.line.OrderKey.TheVariants.{Ascending, Descending}
-use Rattle.wat_group.specs.Order.{key_eq, order_keys_cmp}
+use Rattle.wat_value.specs.Order.{key_eq}
+use Rattle.wat_group.specs.Order.{order_keys_cmp}
 
 abbrev pub Row : Type 0
 Row = List Value
@@ -150,7 +151,7 @@ is_kept q at = is_true (condition_at at q.having)
 
 -- the arguments of the query's aggregates
 abbrev pub arguments_of : Query → List Expr
-arguments_of q = flat_map arguments_in (listed q.items ++ maybe q.having)
+arguments_of q = flat_map arguments_in (listed q.items ++ option_to_list q.having)
 
 -- a combination has Error in an aggregate's argument or a GROUP BY column
 abbrev pub fails_before_groups : Query → Combination → Bool
@@ -175,17 +176,17 @@ lines q rows =
     else map (λ r. line_at q (over r)) rows
 
 -- ORDER BY, which leaves lines that it doesn't tell apart as they stand
-abbrev pub in_order : List Line → List Line
-in_order = sort_by (λ a b. order_keys_cmp a.order b.order)
+abbrev pub ordered : List Line → List Line
+ordered = sort_by (λ a b. order_keys_cmp a.order b.order)
 
 -- DISTINCT keeps the first of equal rows.
 abbrev pub distinct_if : Bool → List Row → List Row
 distinct_if wanted rows = if wanted then first_of_each key_eq rows else rows
 
 -- the answer over combinations that are in the order of the primary keys
-unfoldable pub answer_of : Query → List Combination → Finished
-answer_of q rows = if fails q rows then Arithmetic else Rows (distinct_if q.distinct (map (λ line. line.row) (in_order (lines q rows))))
+unfoldable pub answer_over : Query → List Combination → Finished
+answer_over q rows = if fails q rows then Arithmetic else Rows (distinct_if q.distinct (map (λ line. line.row) (ordered (lines q rows))))
 
 -- what passed WHERE, in the order in which it was met: grouped, projected, ordered and made distinct
 abbrev pub finish : Query → List TableDef → List Combination → Finished
-finish q defs met = answer_of q (in_key_order defs met)
+finish q defs met = answer_over q (in_key_order defs met)

@@ -1,5 +1,5 @@
 ghost use Rattle.std.specs.Prelude.{◌≡◌, IfOk};
-ghost use Rattle.wat_group.specs.Order.{key_eq};
+ghost use Rattle.wat_value.specs.Order.{key_eq};
 ghost use Rattle.wat_group.specs.Query.{first_of_each};
 
 use std::alloc::Global;

@@ -2,9 +2,9 @@ ghost use Rattle.std.specs.Prelude.{◌≡◌, [], List, map, IfOk, IsPermutatio
 ghost use Rattle.std.specs.List.{IsDistinct};
 ghost use Rattle.std.specs.Option.{option_map};
 ghost use Rattle.wat_expr.specs.Evaluation.{Combination};
-ghost use Rattle.wat_group.specs.Order.{key_eq};
+ghost use Rattle.wat_value.specs.Order.{key_eq};
 ghost use Rattle.wat_group.specs.Query.{unless, finish, fails, lines, keys_at};
-ghost use Rattle.wat_group.specs.Taken.{pointed};
+ghost use Rattle.wat_walk.specs.Lent.{lent};
 
 use crate::answer::Finished;
 use crate::distinct::first_of_each;
@@ -27,7 +27,7 @@ fn lines<'a>(
     nothing: &'a Combination,
 ) -> Result<Option<Vec<Line>>, NoMemory>
     requires { nothing.now ≡ [] }
-    ensures { IfOk result (λ found. option_map (λ l. l.items) found ≡ unless (fails query.now (pointed rows.now)) (lines query.now (pointed rows.now))) }
+    ensures { IfOk result (λ found. option_map (λ l. l.items) found ≡ unless (fails query.now (lent rows.now)) (lines query.now (lent rows.now))) }
 {
     let grouped = Grouped::of(alloc, query)?;
     if !grouped.is_grouped {

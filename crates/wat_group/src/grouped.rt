@@ -1,8 +1,8 @@
-ghost use Rattle.std.specs.Prelude.{◌≡◌, ◌++◌, IfOk};
+ghost use Rattle.std.specs.Prelude.{◌≡◌, ◌++◌, IfOk, option_to_list};
 ghost use Rattle.std.specs.List.{flat_map, list_any};
 ghost use Rattle.wat_walk.specs.Lent.{lent};
 ghost use Rattle.wat_walk.specs.Parts.{is_aggregated, arguments_in};
-ghost use Rattle.wat_walk.specs.Queries.{listed, maybe, is_grouped};
+ghost use Rattle.wat_walk.specs.Queries.{listed, is_grouped};
 ghost use Rattle.wat_group.specs.Query.{arguments_of};
 
 use std::alloc::Global;
@@ -21,27 +21,24 @@ fn aggregates_of<'a>(alloc: Global, items: &'a SelectItems) -> Result<Aggregates
     ensures found { IfOk result (λ a. a.found ≡ list_any is_aggregated (listed items.now)) }
     ensures arguments { IfOk result (λ a. lent a.arguments.items ≡ flat_map arguments_in (listed items.now)) }
 {
-    let mut aggregates = Aggregates::new(alloc);
+    let none = Aggregates::new(alloc);
     match items {
-        SelectItems::Star => Ok(aggregates),
-        SelectItems::List(exprs) => {
-            aggregates.add_all(alloc, exprs.as_slice())?;
-            Ok(aggregates)
-        }
+        SelectItems::Star => Ok(none),
+        SelectItems::List(exprs) => none.with_all(alloc, exprs.as_slice()),
     }
 }
 
 fn with_having<'a>(
     alloc: Global,
-    mut aggregates: Aggregates<'a>,
+    aggregates: Aggregates<'a>,
     having: &'a Option<Expr>,
 ) -> Result<Vec<&'a Expr>, NoMemory>
-    ensures { IfOk result (λ v. lent v.items ≡ lent aggregates.entry.arguments.items ++ flat_map arguments_in (maybe having.now)) }
+    ensures { IfOk result (λ v. lent v.items ≡ lent aggregates.entry.arguments.items ++ flat_map arguments_in (option_to_list having.now)) }
 {
     match having {
         None => Ok(aggregates.arguments),
         Some(condition) => {
-            aggregates.add(alloc, condition)?;
+            let aggregates = aggregates.with(alloc, condition)?;
             Ok(aggregates.arguments)
         }
     }

@@ -4,9 +4,9 @@ ghost use Rattle.std.specs.Option.{option_map};
 ghost use Rattle.sqlite_trees.specs.Tree.{IsAscending};
 ghost use Rattle.wat_walk.specs.Lent.{lent};
 ghost use Rattle.wat_expr.specs.Evaluation.{over_group, outcome_of};
-ghost use Rattle.wat_group.specs.Order.{key_eq};
+ghost use Rattle.wat_value.specs.Order.{key_eq};
 ghost use Rattle.wat_group.specs.Query.{unless, arguments_of, fails_before_groups, group_values, has_error, over_all, groups_at};
-ghost use Rattle.wat_group.specs.Taken.{over_of, pointed, keyed_as, rows_in, under, IsAtMost, classes};
+ghost use Rattle.wat_group.specs.Private.{over_of, keyed_as, rows_in, under, IsAtMost, classes};
 
 use crate::keyed::{Keyed, sort_by_keys};
 use crate::making::{outcomes, row_of};
@@ -14,14 +14,14 @@ use crate::taken::Taken;
 use std::alloc::Global;
 use wat_ast::{Expr, Query};
 use wat_list::NoMemory;
-use wat_value::{Combination, Key, compare_keys};
+use wat_value::{Combination, Row, compare_rows};
 
-// How many entries from the front on have the key.
-fn run_length(sorted: &[Keyed], key: &Key) -> usize
+// How many entries from the front on have these values.
+fn run_length(sorted: &[Keyed], key: &Row) -> usize
     ensures { result ≡ prefix_len (λ entry. key_eq key.now entry.key) sorted.now }
 {
     for (length, entry) in sorted.iter().enumerate() {
-        if compare_keys(key, &entry.key).is_ne() {
+        if compare_rows(key.as_slice(), entry.key.as_slice()).is_ne() {
             return length;
         }
     }
@@ -45,7 +45,7 @@ fn group_of<'a>(
     })
 }
 
-// A group for each run of equal keys.
+// A group for each run of equal values.
 fn cut<'a>(alloc: Global, sorted: &[Keyed<'a>]) -> Result<Vec<Taken<'a>>, NoMemory>
     requires { IsAscending IsAtMost sorted.now }
     ensures { IfOk result (λ groups. map over_of groups.items ≡ map over_all (map rows_in (classes sorted.now))) }
@@ -68,7 +68,7 @@ fn group_key(
     query: &Query,
     arguments: &[&Expr],
     rows: &Combination,
-) -> Result<Option<Key>, NoMemory>
+) -> Result<Option<Row>, NoMemory>
     requires { lent arguments.now ≡ arguments_of query.now }
     ensures { IfOk result (λ key. key ≡ unless (fails_before_groups query.now rows.now) (group_values query.now rows.now)) }
 {
@@ -100,7 +100,7 @@ fn under_group_keys<'a>(
     rows: &[&'a Combination],
 ) -> Result<Option<Vec<Keyed<'a>>>, NoMemory>
     requires { lent arguments.now ≡ arguments_of query.now }
-    ensures { IfOk result (λ keyed. option_map (λ k. keyed_as k.items) keyed ≡ unless (list_any (fails_before_groups query.now) (pointed rows.now)) (map (under (group_values query.now)) (pointed rows.now))) }
+    ensures { IfOk result (λ keyed. option_map (λ k. keyed_as k.items) keyed ≡ unless (list_any (fails_before_groups query.now) (lent rows.now)) (map (under (group_values query.now)) (lent rows.now))) }
 {
     let mut keyed = Vec::new(alloc);
     for row in rows {
@@ -119,7 +119,7 @@ fn one_group<'a>(
     nothing: &'a Combination,
 ) -> Result<Vec<Taken<'a>>, NoMemory>
     requires { nothing.now ≡ [] }
-    ensures { IfOk result (λ groups. map over_of groups.items ≡ over_all (pointed rows.now) ∷ []) }
+    ensures { IfOk result (λ groups. map over_of groups.items ≡ over_all (lent rows.now) ∷ []) }
 {
     let first = match rows.first() {
         Some(first) => *first,
@@ -144,7 +144,7 @@ pub fn groups<'a>(
 ) -> Result<Option<Vec<Taken<'a>>>, NoMemory>
     requires arguments { lent arguments.now ≡ arguments_of query.now }
     requires nothing { nothing.now ≡ [] }
-    ensures { IfOk result (λ groups. option_map (λ g. map over_of g.items) groups ≡ unless (list_any (fails_before_groups query.now) (pointed rows.now)) (groups_at query.now (pointed rows.now))) }
+    ensures { IfOk result (λ groups. option_map (λ g. map over_of g.items) groups ≡ unless (list_any (fails_before_groups query.now) (lent rows.now)) (groups_at query.now (lent rows.now))) }
 {
     let Some(mut keyed) = under_group_keys(alloc, query, arguments, rows)? else {
         return Ok(None);

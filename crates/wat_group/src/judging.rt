@@ -3,8 +3,9 @@ ghost use Rattle.std.specs.List.{filter as where_true, list_any};
 ghost use Rattle.std.specs.Option.{option_map};
 ghost use Rattle.wat_expr.specs.Evaluation.{over};
 ghost use Rattle.wat_group.specs.Query.{unless, condition_at, line_at, fails_at, fails_group, is_kept};
-ghost use Rattle.wat_group.specs.Judged.{judged};
-ghost use Rattle.wat_group.specs.Taken.{over_of, pointed};
+ghost use Rattle.wat_group.specs.Private.{judged};
+ghost use Rattle.wat_walk.specs.Lent.{lent};
+ghost use Rattle.wat_group.specs.Private.{over_of};
 
 use crate::line::Line;
 use crate::making::line_at;
@@ -77,7 +78,7 @@ pub fn plain_lines(
     query: &Query,
     rows: &[&Combination],
 ) -> Result<Option<Vec<Line>>, NoMemory>
-    ensures { IfOk result (λ lines. option_map (λ l. l.items) lines ≡ unless (list_any (λ r. fails_at query.now (over r)) (pointed rows.now)) (map (λ r. line_at query.now (over r)) (pointed rows.now))) }
+    ensures { IfOk result (λ lines. option_map (λ l. l.items) lines ≡ unless (list_any (λ r. fails_at query.now (over r)) (lent rows.now)) (map (λ r. line_at query.now (over r)) (lent rows.now))) }
 {
     let mut lines = Vec::new(alloc);
     for row in rows {

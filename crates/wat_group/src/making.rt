@@ -2,7 +2,7 @@ ghost use Rattle.std.specs.Prelude.{◌≡◌, ◌++◌, IfOk, OnOk, map};
 ghost use Rattle.wat_expr.specs.Evaluation.{outcome_of};
 ghost use Rattle.wat_expr.specs.Logic.{is_error};
 ghost use Rattle.wat_group.specs.Query.{unless, value_of, values_of, has_error, all_values, items_at, item_at, order_outcome, order_outcomes, order_key, line_at, fails_at};
-ghost use Rattle.wat_group.specs.Taken.{over_of};
+ghost use Rattle.wat_group.specs.Private.{over_of};
 
 use crate::line::{Line, OrderKey, OrderKeys};
 use crate::taken::Taken;

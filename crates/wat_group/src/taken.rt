@@ -1,6 +1,6 @@
 ghost use Rattle.std.specs.Prelude.{◌≡◌, IfOk};
 ghost use Rattle.wat_expr.specs.Evaluation.{outcome_of};
-ghost use Rattle.wat_group.specs.Taken.{over_of};
+ghost use Rattle.wat_group.specs.Private.{over_of};
 
 use std::alloc::Global;
 use wat_ast::Expr;

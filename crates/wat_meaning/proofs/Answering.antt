@@ -1,11 +1,11 @@
 -- The rows of a query's answer have values of the types that the checks found.
-use Rattle.std.proofs.Common.{◌≡◌, ℕ, zero, suc, ◌==◌, nat_lt, Bool, true, false, not, cond, ◌&&◌, if◌then◌else◌, List, [], ◌∷◌, ◌++◌, map, filter, length, Option, Some, None, slice_index_or, is_some, refl, sym, ap, ◌∙◌, inl, inr}
-use Rattle.std.specs.List.{find, list_any, list_all, flat_map, filter_map}
+use Rattle.std.proofs.Common.{◌≡◌, ℕ, zero, suc, nat_lt, Bool, true, false, not, ◌&&◌, if◌then◌else◌, List, [], ◌∷◌, ◌++◌, map, filter, length, Option, Some, None, slice_index_or, is_some, refl, sym, ap, ◌∙◌}
+use Rattle.std.specs.List.{list_any, list_all, flat_map, filter_map}
 use Rattle.std.specs.Option.{option_map, option_and_then, option_map_or}
 use Rattle.std.specs.declared.cmp.Ordering.{Ordering}
 use Rattle.std.specs.Ordering.{is_gt}
 use Rattle.std.specs.Cmp.Lexicographic.{pointwise}
-use Rattle.std.proofs.lemmas.Bool.{and_parts, and_from, cases_Bool, eq-eqb}
+use Rattle.std.proofs.lemmas.Bool.{and_parts, and_from}
 use Rattle.sqlite_keyed.specs.Lists.{insert_sorted, sort_by}
 use Rattle.wat_value.specs.declared.value.Value.{Value}
 use Rattle.wat_value.specs.declared.definition.Column.{Column}
@@ -21,25 +21,26 @@ use Rattle.wat_ast.specs.declared.query.Query.{Query}
 use Rattle.wat_walk.specs.Queries.{listed, is_grouped}
 use Rattle.wat_schema.specs.declared.refusal.Refusal.{Refusal}
 use Rattle.wat_schema.specs.declared.refusal.Refusal.TheVariants.{NoTable}
-use Rattle.wat_schema.specs.Catalog.{Name, Catalog, table_named, def_at, has_name}
-use Rattle.wat_schema.specs.Tables.{Row, Table, Tables, listing_of, catalog_of, table_at}
+use Rattle.wat_schema.specs.Catalog.{Name, Catalog, table_named, def_at}
+use Rattle.wat_schema.specs.Tables.{Row, Table, Tables, catalog_of, table_at}
 use Rattle.wat_schema.proofs.RowOrder as rows
-use Rattle.wat_rules.specs.declared.typing.ExprType.{ExprType}
-use Rattle.wat_rules.specs.Scope.{Scope, query_scope, visible}
-use Rattle.wat_rules.specs.Columns.{needed, needed_sources}
-use Rattle.wat_rules.specs.Types.{ColumnTypes, typing_of}
-use Rattle.wat_rules.specs.Rules.{column_type, types_of, type_at, types_in, typings, kinds, shown_types, query_types}
+use Rattle.wat_types.specs.declared.typing.ExprType.{ExprType}
+use Rattle.wat_scope.specs.Scope.{Scope, query_scope, visible}
+use Rattle.wat_names.specs.Columns.{needed, needed_sources}
+use Rattle.wat_types.specs.Types.{ColumnTypes, typing_of}
+use Rattle.wat_typing.specs.Rules.{column_type, types_of, type_at, types_in, typings, kinds, shown_types, query_types}
 use Rattle.wat_expr.specs.declared.outcome.Outcome.{Outcome}
 use Rattle.wat_expr.specs.declared.outcome.Outcome.TheVariants as o
 use Rattle.wat_expr.specs.Evaluation.{Combination, Over, over, outcome_of}
 use Rattle.wat_group.specs.declared.answer.Finished.{Finished}
 use Rattle.wat_group.specs.declared.answer.Finished.TheVariants as finished
 use Rattle.wat_group.specs.declared.line.Line.{Line}
-use Rattle.wat_group.specs.Order.{key_eq, order_keys_cmp}
-use Rattle.wat_group.specs.Query.{first_of_each, value_of, values_of, all_values, keys_at, in_key_order, items_at, line_at, group_values, group_keys, groups, over_all, groups_at, is_kept, fails, lines, in_order, distinct_if, answer_of, finish}
-use Rattle.wat_meaning.specs.Meaning.{product, passes, fails_at, table_called, tables_of, combinations, answer}
+use Rattle.wat_value.specs.Order.{key_eq}
+use Rattle.wat_group.specs.Order.{order_keys_cmp}
+use Rattle.wat_group.specs.Query.{first_of_each, value_of, values_of, all_values, keys_at, in_key_order, items_at, line_at, group_values, group_keys, groups, over_all, groups_at, is_kept, fails, lines, ordered, distinct_if, answer_over}
+use Rattle.wat_meaning.specs.Meaning.{product, passes, rows_called, table_called, combinations, passed, where_fails, def_called, source_defs, answer}
 use Rattle.wat_meaning.proofs.Typed.{is_of, AreOf, AllAreOf, GroupIsOf, sound}
-use Rattle.wat_meaning.proofs.Passed.{type_at_is, def_is}
+use Rattle.wat_meaning.proofs.Passed.{type_at_is, listed_def, def_stands}
 use Rattle.wat_meaning.proofs.Fitting.{has_kind, is_typed}
 use Rattle.wat_meaning.proofs.Updating.{kind_is, typed_at}
 
@@ -56,7 +57,7 @@ module _ {X : Type 0} (p : X → Bool) where
       either true a b = a
       either false a b = b
 
-  all_sorted : (cmp : X → X → Ordering) (xs : List X) → list_all p xs ≡ true → list_all p (sort_by cmp xs) ≡ true
+  pub all_sorted : (cmp : X → X → Ordering) (xs : List X) → list_all p xs ≡ true → list_all p (sort_by cmp xs) ≡ true
   all_sorted cmp [] all = refl
   all_sorted cmp (x ∷ xs) all = let q = and_parts (p x) (list_all p xs) all in all_inserted cmp x (sort_by cmp xs) q.0 (all_sorted cmp xs q.1)
 
@@ -67,21 +68,21 @@ module _ {X : Type 0} (p : X → Bool) where
       and_from (p x) (list_all p (filter (λ y. not (same x y)) (first_of_each same xs))) q.0
       (rows.list_all-filter p (λ y. not (same x y)) (first_of_each same xs) (all_first same xs q.1))
 
-all_mapped : {X Y : Type 0} (p : X → Bool) (q : Y → Bool) (f : X → Y) → ((x : X) → p x ≡ true → q (f x) ≡ true) → (xs : List X) → list_all p xs ≡ true → list_all q (map f xs) ≡ true
+pub all_mapped : {X Y : Type 0} (p : X → Bool) (q : Y → Bool) (f : X → Y) → ((x : X) → p x ≡ true → q (f x) ≡ true) → (xs : List X) → list_all p xs ≡ true → list_all q (map f xs) ≡ true
 all_mapped p q f goes [] all = refl
 all_mapped p q f goes (x ∷ xs) all = let a = and_parts (p x) (list_all p xs) all in and_from (q (f x)) (list_all q (map f xs)) (goes x a.0) (all_mapped p q f goes xs a.1)
 
 -- ---- combinations of fitting rows
 
 -- a row of each table, typed by its definition
-abbrev rows_fit : List TableDef → Combination → Bool
+abbrev pub rows_fit : List TableDef → Combination → Bool
 rows_fit [] [] = true
 rows_fit [] (r ∷ rs) = false
 rows_fit (d ∷ ds) [] = false
 rows_fit (d ∷ ds) (None ∷ rs) = false
 rows_fit (d ∷ ds) (Some row ∷ rs) = is_typed d.columns row && rows_fit ds rs
 
-abbrev is_typed_table : Table → Bool
+abbrev pub is_typed_table : Table → Bool
 is_typed_table x = list_all (is_typed x.def.columns) x.rows
 
 with_row : (d : TableDef) (ds : List TableDef) (rest : List Combination) → list_all (rows_fit ds) rest ≡ true → (rs : List Row) → list_all (is_typed d.columns) rs ≡ true
@@ -93,11 +94,56 @@ with_row d ds rest all (r ∷ rs) fit =
     (all_mapped (rows_fit ds) (rows_fit (d ∷ ds)) (λ more. Some r ∷ more) (λ more is. and_from (is_typed d.columns r) (rows_fit ds more) p.0 is) rest all)
     (with_row d ds rest all rs p.1)
 
-product_fits : (tables : List Table) → list_all is_typed_table tables ≡ true → list_all (rows_fit (map (λ x. x.def) tables)) (product (map (λ x. x.rows) tables)) ≡ true
-product_fits [] all = refl
-product_fits (x ∷ xs) all =
-    let p = and_parts (is_typed_table x) (list_all is_typed_table xs) all in
-    with_row x.def (map (λ z. z.def) xs) (product (map (λ z. z.rows) xs)) (product_fits xs p.1) x.rows p.0
+-- a table that is called is the one whose definition is
+pub called_defs : (t : Tables) (name : Name) → def_called (catalog_of t) name ≡ option_map (λ x. x.def) (table_called t name)
+called_defs t name = by (table_named (catalog_of t) name)
+  where
+    by : (o : Option ℕ) → option_and_then (def_at (catalog_of t)) o ≡ option_map (λ x. x.def) (option_and_then (table_at t) o)
+    by None = refl
+    by (Some n) = listed_def n t.tables
+
+abbrev pub defs_of : Catalog → List Source → List TableDef
+defs_of c sources = filter_map (λ source. def_called c source.table) sources
+
+abbrev pub product_of : Tables → List Source → List Combination
+product_of t sources = product (map (λ source. rows_called t source.table) sources)
+
+-- every table has rows that are typed by its definition
+abbrev pub AreTyped : Tables → Type 0
+AreTyped t = (n : ℕ) (x : Table) → table_at t n ≡ Some x → is_typed_table x ≡ true
+
+product_fits : (t : Tables) → AreTyped t → (sources : List Source) → list_all (rows_fit (defs_of (catalog_of t) sources)) (product_of t sources) ≡ true
+product_fits t typed [] = refl
+product_fits t typed (s ∷ ss) = by (table_named (catalog_of t) s.table) refl (product_fits t typed ss)
+  where
+    stands : (n : ℕ) (o : Option Table) → table_named (catalog_of t) s.table ≡ Some n → table_at t n ≡ o → list_all (rows_fit (defs_of (catalog_of t) ss)) (product_of t ss) ≡ true
+        → list_all (rows_fit (defs_of (catalog_of t) (s ∷ ss))) (product_of t (s ∷ ss)) ≡ true
+    stands n None e h rest =
+        let none : table_called t s.table ≡ None = ap (option_and_then (table_at t)) e ∙ h in
+        rw none refl
+    stands n (Some x) e h rest =
+        let called : table_called t s.table ≡ Some x = ap (option_and_then (table_at t)) e ∙ h in
+        let def : def_called (catalog_of t) s.table ≡ Some x.def = called_defs t s.table ∙ ap (option_map (λ z. z.def)) called in
+        rw (called, def) (with_row x.def (defs_of (catalog_of t) ss) (product_of t ss) rest x.rows (typed n x h))
+
+    by : (o : Option ℕ) → table_named (catalog_of t) s.table ≡ o → list_all (rows_fit (defs_of (catalog_of t) ss)) (product_of t ss) ≡ true
+        → list_all (rows_fit (defs_of (catalog_of t) (s ∷ ss))) (product_of t (s ∷ ss)) ≡ true
+    by None e rest =
+        let none : table_called t s.table ≡ None = ap (option_and_then (table_at t)) e in
+        rw none refl
+    by (Some n) e rest = stands n (table_at t n) e refl rest
+
+-- the combinations that pass have typed rows
+pub passed_fits : (t : Tables) → AreTyped t → (q : Query) (met : List Combination) → passed t q ≡ Some met → list_all (rows_fit (source_defs (catalog_of t) q)) met ≡ true
+unfolding passed
+passed_fits t typed q met h = by (list_any (where_fails q.filter) (combinations t q)) h
+  where
+    by : (failed : Bool) → (if failed then None else Some (filter (passes q.filter) (combinations t q))) ≡ Some met → list_all (rows_fit (source_defs (catalog_of t) q)) met ≡ true
+    by true k = cc
+    by false k =
+        let is : filter (passes q.filter) (combinations t q) ≡ met = cc in
+        ap (list_all (rows_fit (source_defs (catalog_of t) q))) (sym is)
+        ∙ rows.list_all-filter (rows_fit (source_defs (catalog_of t) q)) (passes q.filter) (combinations t q) (product_fits t typed q.sources)
 
 -- ---- the sources and their tables
 
@@ -125,53 +171,27 @@ are_of c (s ∷ ss) (d ∷ ds) (Some row ∷ rs) al fit (suc source) column =
 pub none_are : (columns : ColumnTypes) → AreOf columns []
 none_are columns source column = refl
 
--- a table that is found by its name is found by its number
-by_name : (name : Name) (n : ℕ) (xs : List Table) → option_map (λ l. l.def.number) (find (has_name name) (map listing_of xs)) ≡ Some n → (x : Table) × (find (λ z. n == z.def.number) xs ≡ Some x)
-by_name name n [] h = cc
-by_name name n (x ∷ xs) h = elim (cases_Bool (has_name name (listing_of x))) [
-  | inl here ↦
-      let found : option_map (λ l. l.def.number) (cond (has_name name (listing_of x)) (Some (listing_of x)) (find (has_name name) (map listing_of xs))) ≡ Some n = h in
-      let same : Some x.def.number ≡ Some n = rw here at found in
-      let is : x.def.number ≡ n = cc in
-      (x, (let at : (n == x.def.number) ≡ true = eq-eqb n x.def.number (sym is) in rw at refl))
-  | inr other ↦
-      let found : option_map (λ l. l.def.number) (cond (has_name name (listing_of x)) (Some (listing_of x)) (find (has_name name) (map listing_of xs))) ≡ Some n = h in
-      let rest = by_name name n xs (rw other at found) in
-      elim (cases_Bool (n == x.def.number)) [
-        | inl at ↦ (x, rw at refl)
-        | inr past ↦ (rest.0, rw past rest.1)
-      ]
-]
-
-pub stands_by_name : (t : Tables) (name : Name) (n : ℕ) → table_named (catalog_of t) name ≡ Some n → (x : Table) × (table_at t n ≡ Some x)
-stands_by_name t name n h = by_name name n t.tables h
-
--- what is known of the tables of the sources
-record Sources (t : Tables) (sources : List Source) : Type 0 where
-  aligned : Aligned (catalog_of t) (map (visible (catalog_of t)) sources) (map (λ x. x.def) (filter_map (λ source. table_called t source.table) sources))
-  typed : list_all is_typed_table (filter_map (λ source. table_called t source.table) sources) ≡ true
-
-sources_are : (t : Tables) → ((n : ℕ) (x : Table) → table_at t n ≡ Some x → is_typed_table x ≡ true) → (sources : List Source)
-    → flat_map (λ source. needed (catalog_of t) source.table) sources ≡ [] → Sources t sources
+-- the sources of which each table stands
+pub aligned : (c : Catalog) (sources : List Source) → flat_map (λ source. needed c source.table) sources ≡ [] → Aligned c (map (visible c) sources) (defs_of c sources)
 unfolding visible
-sources_are t each [] none = record { aligned = tt; typed = refl }
-sources_are t each (s ∷ ss) none = by (table_named (catalog_of t) s.table) refl none (λ later. sources_are t each ss later)
+aligned c [] none = tt
+aligned c (s ∷ ss) none = by (table_named c s.table) refl none (λ later. aligned c ss later)
   where
     more : List Refusal
-    more = flat_map (λ source. needed (catalog_of t) source.table) ss
+    more = flat_map (λ source. needed c source.table) ss
 
-    by : (o : Option ℕ) → table_named (catalog_of t) s.table ≡ o → (if is_some (table_named (catalog_of t) s.table) then [] else NoTable s.table ∷ []) ++ more ≡ []
-        → (more ≡ [] → Sources t ss) → Sources t (s ∷ ss)
+    stands : (n : ℕ) (o : Option TableDef) → table_named c s.table ≡ Some n → def_at c n ≡ o → is_some o ≡ true → Aligned c (map (visible c) ss) (defs_of c ss) → Aligned c (map (visible c) (s ∷ ss)) (defs_of c (s ∷ ss))
+    stands n None e h is rest = cc
+    stands n (Some def) e h is rest =
+        let called : def_called c s.table ≡ Some def = ap (option_and_then (def_at c)) e ∙ h in
+        rw called ((n, e, h), rest)
+
+    by : (o : Option ℕ) → table_named c s.table ≡ o → (if is_some (table_named c s.table) then [] else NoTable s.table ∷ []) ++ more ≡ [] → (more ≡ [] → Aligned c (map (visible c) ss) (defs_of c ss))
+        → Aligned c (map (visible c) (s ∷ ss)) (defs_of c (s ∷ ss))
     by None e h rest = absurd (let no : NoTable s.table ∷ more ≡ [] = ap (λ (o : Option ℕ). (if is_some o then [] else NoTable s.table ∷ []) ++ more) (sym e) ∙ h in cc)
     by (Some n) e h rest =
-        let found = stands_by_name t s.table n e in
-        let x = found.0 in
         let later : more ≡ [] = ap (λ (o : Option ℕ). (if is_some o then [] else NoTable s.table ∷ []) ++ more) (sym e) ∙ h in
-        let called : table_called t s.table ≡ Some x = ap (option_and_then (table_at t)) e ∙ found.1 in
-        record {
-          aligned = rw called ((n, e, def_is t n x found.1), (rest later).aligned);
-          typed = rw called (and_from (is_typed_table x) (list_all is_typed_table (filter_map (λ source. table_called t source.table) ss)) (each n x found.1) (rest later).typed);
-        }
+        stands n (def_at c n) e refl (def_stands c s.table n e) (rest later)
 
 -- ---- lines
 
@@ -285,42 +305,27 @@ module _ (c : Catalog) (scope : Scope) (defs : List TableDef) (al : Aligned c sc
           (all_mapped (list_all (rows_fit defs)) (λ at. line_is types (line_at q at)) over_all (grouped g) (groups q met) (groups_fit met fit)))
       by false g = all_mapped (rows_fit defs) (line_is types) (λ r. line_at q (over r)) (λ r h. one_line (over r) (are_of c scope defs r al h) tt (λ e. star_is c scope defs r al h)) met fit
 
-  finished_are : (met : List Combination) → list_all (rows_fit defs) met ≡ true → (is_grouped q ≡ true → ¬ (q.items ≡ items.Star)) → FoundAre types (answer_of q met)
-  unfolding answer_of
+  finished_are : (met : List Combination) → list_all (rows_fit defs) met ≡ true → (is_grouped q ≡ true → ¬ (q.items ≡ items.Star)) → FoundAre types (answer_over q met)
+  unfolding answer_over
   finished_are met fit no_star = by (fails q met)
     where
-      ordered : list_all (pointwise is_of types) (map (λ line. line.row) (in_order (lines q met))) ≡ true
-      ordered = all_mapped (line_is types) (pointwise is_of types) (λ line. line.row) (λ line h. h) (in_order (lines q met))
+      in_turn : list_all (pointwise is_of types) (map (λ line. line.row) (ordered (lines q met))) ≡ true
+      in_turn = all_mapped (line_is types) (pointwise is_of types) (λ line. line.row) (λ line h. h) (ordered (lines q met))
           (all_sorted (line_is types) (λ a b. order_keys_cmp a.order b.order) (lines q met) (lines_are met fit no_star))
 
-      distinct : (b : Bool) → list_all (pointwise is_of types) (distinct_if b (map (λ line. line.row) (in_order (lines q met)))) ≡ true
-      distinct true = all_first (pointwise is_of types) key_eq (map (λ line. line.row) (in_order (lines q met))) ordered
-      distinct false = ordered
+      distinct : (b : Bool) → list_all (pointwise is_of types) (distinct_if b (map (λ line. line.row) (ordered (lines q met)))) ≡ true
+      distinct true = all_first (pointwise is_of types) key_eq (map (λ line. line.row) (ordered (lines q met))) in_turn
+      distinct false = in_turn
 
-      by : (b : Bool) → FoundAre types (if b then finished.Arithmetic else finished.Rows (distinct_if q.distinct (map (λ line. line.row) (in_order (lines q met)))))
+      by : (b : Bool) → FoundAre types (if b then finished.Arithmetic else finished.Rows (distinct_if q.distinct (map (λ line. line.row) (ordered (lines q met)))))
       by true = tt
       by false = distinct q.distinct
 
--- the answer of a query whose tables stand
-pub answer_is : (t : Tables) (q : Query) → ((n : ℕ) (x : Table) → table_at t n ≡ Some x → list_all (is_typed x.def.columns) x.rows ≡ true) → needed_sources (catalog_of t) q ≡ []
-    → (is_grouped q ≡ true → ¬ (q.items ≡ items.Star)) → FoundAre (query_types (catalog_of t) q) (answer t q)
-answer_is t q each none no_star = by (list_any (fails_at q.filter) all)
+-- the answer of a query whose tables stand, over combinations of typed rows
+pub answer_is : (c : Catalog) (q : Query) (met : List Combination) → needed_sources c q ≡ [] → (is_grouped q ≡ true → ¬ (q.items ≡ items.Star)) → list_all (rows_fit (source_defs c q)) met ≡ true
+    → FoundAre (query_types c q) (answer c q met)
+answer_is c q met none no_star fit =
+    finished_are c (query_scope c q) defs (aligned c q.sources none) q (in_key_order defs met) (all_sorted (rows_fit defs) (λ a b. key_cmp (keys_at defs a) (keys_at defs b)) met fit) no_star
   where
-    all : List Combination
-    all = combinations t q
-
-    s : Sources t q.sources
-    s = sources_are t each q.sources none
-
     defs : List TableDef
-    defs = map (λ x. x.def) (tables_of t q)
-
-    met : List Combination
-    met = filter (passes q.filter) all
-
-    fit : list_all (rows_fit defs) (in_key_order defs met) ≡ true
-    fit = all_sorted (rows_fit defs) (λ a b. key_cmp (keys_at defs a) (keys_at defs b)) met (rows.list_all-filter (rows_fit defs) (passes q.filter) all (product_fits (tables_of t q) s.typed))
-
-    by : (b : Bool) → FoundAre (query_types (catalog_of t) q) (if b then finished.Arithmetic else finish q defs met)
-    by true = tt
-    by false = finished_are (catalog_of t) (query_scope (catalog_of t) q) defs s.aligned q (in_key_order defs met) fit no_star
+    defs = source_defs c q

@@ -15,7 +15,7 @@ use Rattle.wat_value.specs.OrderLaws.{key_cmp_level, key_cmp_refl}
 use Rattle.wat_value.specs.Fits.{fits, key_of}
 use Rattle.wat_schema.specs.declared.refusal.Refusal.{Refusal}
 use Rattle.wat_schema.specs.declared.refusal.Refusal.TheVariants.{Duplicate}
-use Rattle.wat_schema.specs.Tables.{Row, Table, Tables, row_eq, by_key, has_row, has_key, put, rising, table_at, with_table, on_table, after_insert, after_update, after_delete, apply, apply_all}
+use Rattle.wat_schema.specs.Tables.{Row, Table, Tables, row_eq, by_key, has_row, has_key, with_row, rising, table_at, with_table, on_table, after_insert, after_update, after_delete, apply, apply_all}
 use Rattle.wat_meaning.specs.Meaning.{stands_already, all_refusals}
 
 -- the acts apply, one after another
@@ -194,7 +194,7 @@ inserts_apply n (r ∷ rs) t x at fit none =
     (inserts_apply n rs (with_table n t y) y (still n t x y at refl) f.1 later)
   where
     y : Table
-    y = record x { rows = put x.def r x.rows }
+    y = record x { rows = with_row x.def r x.rows }
 
     f : (fits x.def r ≡ true) × (list_all (fits x.def) rs ≡ true)
     f = and_parts (fits x.def r) (list_all (fits x.def) rs) fit

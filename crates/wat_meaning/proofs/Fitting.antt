@@ -31,7 +31,7 @@ fault_free type false false false a b c is h = rw is refl
 
 one_fits : (column : Column) (value : Value) → has_kind column value ≡ true → column_fault (column, value) ≡ [] → fits_column column value ≡ true
 one_fits column value is none =
-    fault_free (has_kind column value) (is_missing column value) (is_out_of_range value) (is_too_long column.kind value) (NullValue column.name) (OutOfRange column.name) (TooLong column.name) is none
+    fault_free (has_kind column value) (is_missing column value) (is_out_of_range column.kind value) (is_too_long column.kind value) (NullValue column.name) (OutOfRange column.name) (TooLong column.name) is none
 
 typed_fits : (columns : List Column) (row : Row) → is_typed columns row ≡ true → flat_map column_fault (zip columns row) ≡ [] → pointwise fits_column columns row ≡ true
 typed_fits [] [] is none = refl
@@ -53,8 +53,8 @@ all_fit def (row ∷ rows) is none =
 one_typed : (column : Column) (value : Value) → fits_column column value ≡ true → has_kind column value ≡ true
 one_typed column value h =
     (and_parts (has_kind column value) (not (is_missing column value))
-    (and_parts (has_kind column value && not (is_missing column value)) (not (is_out_of_range value))
-    (and_parts (has_kind column value && not (is_missing column value) && not (is_out_of_range value)) (not (is_too_long column.kind value)) h).0).0).0
+    (and_parts (has_kind column value && not (is_missing column value)) (not (is_out_of_range column.kind value))
+    (and_parts (has_kind column value && not (is_missing column value) && not (is_out_of_range column.kind value)) (not (is_too_long column.kind value)) h).0).0).0
 
 pub fits_typed : (columns : List Column) (row : Row) → pointwise fits_column columns row ≡ true → is_typed columns row ≡ true
 fits_typed [] [] h = refl

@@ -17,10 +17,10 @@ use Rattle.wat_schema.specs.Catalog.{Name, Catalog, def_at, ordinal, repeats}
 use Rattle.wat_schema.specs.Definitions.{same_name}
 use Rattle.wat_schema.specs.Tables.{Row}
 use Rattle.wat_schema.proofs.LookUps.{find_by_position}
-use Rattle.wat_rules.specs.declared.typing.ExprType.{ExprType}
-use Rattle.wat_rules.specs.declared.typing.ExprType.TheVariants.{Null}
-use Rattle.wat_rules.specs.Types.{kind_type}
-use Rattle.wat_rules.specs.Rules.{column_type, type_named, goes_into, misfits, given_types}
+use Rattle.wat_types.specs.declared.typing.ExprType.{ExprType}
+use Rattle.wat_types.specs.declared.typing.ExprType.TheVariants.{Null}
+use Rattle.wat_types.specs.Types.{kind_type}
+use Rattle.wat_typing.specs.Rules.{column_type, type_named, goes_into, misfits, given_types}
 use Rattle.wat_meaning.specs.Meaning.{given_columns, given_value, given_row}
 use Rattle.wat_meaning.proofs.Typed.{is_of, goes}
 use Rattle.wat_meaning.proofs.Passed.{each_goes, kind_at, kind_named, type_named_is}

@@ -1,12 +1,15 @@
 pub mod ActsApply
+pub mod Alone
 pub mod Answering
 pub mod Applying
-pub mod Creating
+pub mod Checked
 pub mod Defining
+pub mod Distinct
 pub mod Examples
 pub mod Fitting
 pub mod Inserting
-pub mod Naming
+pub mod MadeFits
+pub mod Orders
 pub mod Passed
 pub mod Replies
 pub mod Typed

@@ -26,12 +26,12 @@ use Rattle.wat_expr.specs.Operators.{if_fits, or_error, exact, arithmetic, conca
 use Rattle.wat_expr.specs.Aggregates.{known_value, number, sum, summary, aggregate}
 use Rattle.wat_expr.specs.Evaluation.{Combination, Over, over, value_at, aggregate_over, outcome_of}
 use Rattle.wat_expr.proofs.EvaluationLemmas.{outcome-Literal, outcome-Named, outcome-Placed, outcome-Unary, outcome-Binary, outcome-Count, outcome-Some}
-use Rattle.wat_rules.specs.declared.typing.ExprType.{ExprType}
-use Rattle.wat_rules.specs.declared.typing.ExprType.TheVariants as t
-use Rattle.wat_rules.specs.declared.typing.Typing.{Typing}
-use Rattle.wat_rules.specs.Types.{ColumnTypes, typing_of, value_type, unary_type, operator_type, aggregate_type, kind_type}
-use Rattle.wat_rules.specs.Rules.{goes_into}
-use Rattle.wat_rules.proofs.TypeLemmas.{typing-Literal, typing-Named, typing-Placed, typing-Unary, typing-Binary, typing-IsNull, typing-Between, typing-InList, typing-Count, typing-Aggregate}
+use Rattle.wat_types.specs.declared.typing.ExprType.{ExprType}
+use Rattle.wat_types.specs.declared.typing.ExprType.TheVariants as t
+use Rattle.wat_types.specs.declared.typing.Typing.{Typing}
+use Rattle.wat_types.specs.Types.{ColumnTypes, typing_of, value_type, unary_type, operator_type, aggregate_type, kind_type}
+use Rattle.wat_typing.specs.Rules.{goes_into}
+use Rattle.wat_types.proofs.TypeLemmas.{typing-Literal, typing-Named, typing-Placed, typing-Unary, typing-Binary, typing-IsNull, typing-Between, typing-InList, typing-Count, typing-Aggregate}
 use Rattle.wat_group.specs.Query.{value_of}
 
 abbrev takes_int : ExprType → Bool

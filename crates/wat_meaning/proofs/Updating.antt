@@ -15,13 +15,13 @@ use Rattle.wat_schema.specs.declared.refusal.Refusal.{Refusal}
 use Rattle.wat_schema.specs.declared.refusal.Refusal.TheVariants.{KeyAssigned}
 use Rattle.wat_schema.specs.Catalog.{Name, Catalog, table_named, def_at, ordinal}
 use Rattle.wat_schema.specs.Tables.{Row, row_eq}
-use Rattle.wat_rules.specs.declared.typing.ExprType.{ExprType}
-use Rattle.wat_rules.specs.declared.typing.ExprType.TheVariants.{Null}
-use Rattle.wat_rules.specs.Scope.{Scope, table_scope}
-use Rattle.wat_rules.specs.Columns.{key_refusal, is_key_number}
-use Rattle.wat_rules.specs.Places.{placed_set}
-use Rattle.wat_rules.specs.Types.{typing_of, kind_type}
-use Rattle.wat_rules.specs.Rules.{column_type, types_of, type_at, type_named, goes_into, misfits, kinds, typings, set_names, set_values}
+use Rattle.wat_types.specs.declared.typing.ExprType.{ExprType}
+use Rattle.wat_types.specs.declared.typing.ExprType.TheVariants.{Null}
+use Rattle.wat_scope.specs.Scope.{Scope, table_scope}
+use Rattle.wat_names.specs.Columns.{key_refusal, is_key_number}
+use Rattle.wat_names.specs.Places.{placed_set}
+use Rattle.wat_types.specs.Types.{typing_of, kind_type}
+use Rattle.wat_typing.specs.Rules.{column_type, types_of, type_at, type_named, goes_into, misfits, kinds, typings, set_names, set_values}
 use Rattle.wat_expr.specs.Evaluation.{over}
 use Rattle.wat_group.specs.Query.{value_of}
 use Rattle.wat_meaning.specs.Meaning.{alone, set_outcome, with_value}

@@ -5,5 +5,5 @@
 mod laws;
 mod reply;
 
-pub use laws::{acts_laws, meaning_laws, worked_cases};
-pub use reply::Reply;
+pub use laws::{acts_laws, made_laws, meaning_laws, worked_cases};
+pub use reply::{Meaning, Reply};

@@ -1,5 +1,12 @@
 use wat_schema::Refusal;
-use wat_value::Rows;
+use wat_value::{Acts, Rows};
+
+/// What a statement means over tables: its answer, and the acts that it makes, in their order.
+#[derive(Debug, Drop)]
+pub struct Meaning {
+    pub answer: Reply,
+    pub acts: Acts,
+}
 
 /// What a statement is answered over tables.
 #[derive(Debug, Drop)]

@@ -1,30 +1,35 @@
-//! Checks and answers the statements of two files, and prints each one with what is said of it.
+//! Checks and answers the statements of three files, and prints each one with what is said of it.
 //!
 //! Those of `checks.sql` are checked against the schema that they make. Those of `answers.sql` are
-//! answered over the rows that they insert.
+//! answered over the rows that they insert. Of each query of `outcomes.sql` the outcome is taken that
+//! its WHERE has over no row, or its item where it has no WHERE.
 #![tactic(auto)]
 
-ghost use Rattle.std.specs.Prelude.{◌≡◌, ◌≤◌, true, length, IsSome};
+ghost use Rattle.std.specs.Prelude.{◌≡◌, ◌≤◌, true, length};
 ghost use Rattle.std.specs.List.{Contains};
 ghost use Rattle.wat_parse.specs.Statements.{statements_of};
-ghost use Rattle.wat_rules.specs.Changes.{change_of, changes_schema};
+ghost use Rattle.wat_rules.specs.Changes.{changes_schema, IsAllowed};
 
 mod database;
+mod faults;
+mod outcomes;
 mod printing;
 
 use crate::database::Database;
-use crate::printing::printed_refusal;
+use crate::outcomes::outcome;
+use crate::printing::{printed_outcome, printed_refusal};
 use std::alloc::{AllocError, Global};
 use std::{fs, io};
 use wat_ast::Statement;
-use wat_rules::{CheckRefusal, check};
 use wat_parse::{ParseRefusal, Span, statement, statements};
+use wat_rules::{CheckRefusal, check};
 
 /// What is shown of a statement that is checked through.
 #[derive(Clone, Copy)]
 enum Shown {
     Nothing,
     Answer,
+    Outcome,
 }
 
 fn answered(
@@ -33,11 +38,15 @@ fn answered(
     base: &mut Database,
     shown: Shown,
 ) -> Result<String, AllocError>
-    requires { changes_schema placed.now ≡ true → IsSome (change_of base.old.schema placed.now) }
+    requires { changes_schema placed.now ≡ true → IsAllowed base.old.schema placed.now }
 {
     match shown {
         Shown::Nothing => base.make(alloc, placed),
         Shown::Answer => base.answer(alloc, placed),
+        Shown::Outcome => match placed {
+            Statement::Select(query) => printed_outcome(alloc, &outcome(alloc, query)?),
+            _ => base.make(alloc, placed),
+        },
     }
 }
 
@@ -76,6 +85,7 @@ fn main(rt: HostRuntime) -> io::Result<()> {
     for (file, shown) in [
         ("checks.sql", Shown::Nothing),
         ("answers.sql", Shown::Answer),
+        ("outcomes.sql", Shown::Outcome),
     ] {
         let text = fs::read_to_string(&rt, file)?;
         let text = text.as_str();

@@ -1,4 +1,5 @@
 use std::alloc::{AllocError, Global};
+use wat_expr::Outcome;
 use wat_schema::Refusal;
 use wat_value::{Row, Rows, Value};
 
@@ -7,6 +8,16 @@ fn printed_value(alloc: Global, value: &Value) -> Result<String, AllocError> {
         Value::Null => String::from_str(alloc, "NULL"),
         Value::Int(n) => format!(in alloc; "{n}"),
         Value::Text(text) => format!(in alloc; "'{}'", text.as_str()),
+    }
+}
+
+pub(crate) fn printed_outcome(alloc: Global, outcome: &Outcome) -> Result<String, AllocError> {
+    match outcome {
+        Outcome::Is(value) => printed_value(alloc, value),
+        Outcome::True => String::from_str(alloc, "True"),
+        Outcome::False => String::from_str(alloc, "False"),
+        Outcome::Unknown => String::from_str(alloc, "Unknown"),
+        Outcome::Error => String::from_str(alloc, "Error"),
     }
 }
 

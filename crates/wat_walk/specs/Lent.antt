@@ -1,7 +1,7 @@
--- Expressions behind references.
+-- Values behind references.
 use Rattle.std.specs.Prelude.{List, map}
 use Rattle.std.specs.Borrow.{Bor}
-use Rattle.wat_ast.specs.declared.expression.Expr.{Expr}
 
-abbrev pub lent : List (Bor Expr) → List Expr
-lent exprs = map (λ e. e.now) exprs
+-- what the references point to
+abbrev pub lent : {X : Type 0} → List (Bor X) → List X
+lent = map (λ x. x.now)

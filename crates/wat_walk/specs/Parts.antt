@@ -1,5 +1,5 @@
 -- What stands within an expression.
-use Rattle.std.specs.Prelude.{ℕ, Bool, true, List, [], ◌∷◌, Option, Some, None}
+use Rattle.std.specs.Prelude.{ℕ, Bool, true, List, [], ◌∷◌, map, Option, Some, None}
 use Rattle.std.specs.List.{flat_map, list_any}
 use Rattle.wat_ast.specs.declared.expression.Expr.{Expr}
 use Rattle.wat_ast.specs.declared.expression.Expr.TheOpen.{Expr-F}
@@ -43,6 +43,10 @@ bare_step e = flat_map (λ x. x) (parts e)
 -- the columns outside aggregates
 unfoldable pub bare_in : Expr → List Spot
 bare_in = fold-Expr (List Spot) bare_step
+
+-- the sources that an expression names outside aggregates
+abbrev pub sources_in : Expr → List ℕ
+sources_in e = map (λ spot. spot.0) (bare_in e)
 
 abbrev pub aggregated_step : Expr-F Bool → Bool
 aggregated_step (Expr-F.Aggregate kind arg) = true

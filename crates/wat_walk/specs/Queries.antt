@@ -1,5 +1,5 @@
 -- The parts of a query.
-use Rattle.std.specs.Prelude.{Bool, ◌||◌, List, [], ◌∷◌, ◌++◌, length, Option, Some, None, nat_lt}
+use Rattle.std.specs.Prelude.{Bool, ◌||◌, List, [], ◌++◌, length, Option, Some, None, nat_lt, option_to_list}
 use Rattle.std.specs.Option.{is_some}
 use Rattle.std.specs.List.{filter_map, list_any}
 use Rattle.wat_ast.specs.declared.expression.Expr.{Expr}
@@ -10,11 +10,6 @@ use Rattle.wat_ast.specs.declared.query.OrderBy.TheVariants as by
 use Rattle.wat_ast.specs.declared.query.OrderItem.{OrderItem}
 use Rattle.wat_ast.specs.declared.query.Query.{Query}
 use Rattle.wat_walk.specs.Parts.{is_aggregated}
-
--- the item, where there is one
-abbrev pub maybe : {X : Type 0} → Option X → List X
-maybe None = []
-maybe (Some x) = x ∷ []
 
 -- the expressions that are written as items, and none for `*`
 abbrev pub listed : SelectItems → List Expr
@@ -31,7 +26,7 @@ order_column item = by_column item.by
 
 -- the expressions of a query, in text order
 abbrev pub expressions_of : Query → List Expr
-expressions_of q = listed q.items ++ maybe q.filter ++ q.group ++ maybe q.having ++ filter_map order_column q.order
+expressions_of q = listed q.items ++ option_to_list q.filter ++ q.group ++ option_to_list q.having ++ filter_map order_column q.order
 
 -- the query has GROUP BY, HAVING or an aggregate
 abbrev pub is_grouped : Query → Bool

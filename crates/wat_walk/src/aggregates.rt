@@ -1,4 +1,4 @@
-ghost use Rattle.std.specs.Prelude.{◌≡◌, ◌||◌, ◌++◌, [], false, OnOk};
+ghost use Rattle.std.specs.Prelude.{◌≡◌, ◌||◌, ◌++◌, [], false, IfOk, OnOk};
 ghost use Rattle.std.specs.List.{flat_map, list_any};
 ghost use Rattle.wat_walk.specs.Chain.{IsOperand};
 ghost use Rattle.wat_walk.specs.Parts.{is_aggregated, arguments_in};
@@ -105,19 +105,21 @@ impl<'a> Aggregates<'a> {
         }
     }
 
-    /// Adds those of the expression.
-    pub fn add(&mut self, alloc: Global, expr: &'a Expr) -> Result<(), NoMemory>
-        ensures found { OnOk result (self.new.found ≡ (self.old.found || is_aggregated expr.now)) }
-        ensures arguments { OnOk result (lent self.new.arguments.items ≡ lent self.old.arguments.items ++ arguments_in expr.now) }
+    /// With those of the expression behind.
+    pub fn with(mut self, alloc: Global, expr: &'a Expr) -> Result<Aggregates<'a>, NoMemory>
+        ensures found { IfOk result (λ a. a.found ≡ (self.entry.found || is_aggregated expr.now)) }
+        ensures arguments { IfOk result (λ a. lent a.arguments.items ≡ lent self.entry.arguments.items ++ arguments_in expr.now) }
     {
-        add_chain(alloc, expr, self)
+        add_chain(alloc, expr, &mut self)?;
+        Ok(self)
     }
 
-    /// Adds those of the expressions, one after another.
-    pub fn add_all(&mut self, alloc: Global, exprs: &'a [Expr]) -> Result<(), NoMemory>
-        ensures found { OnOk result (self.new.found ≡ (self.old.found || list_any is_aggregated exprs.now)) }
-        ensures arguments { OnOk result (lent self.new.arguments.items ≡ lent self.old.arguments.items ++ flat_map arguments_in exprs.now) }
+    /// With those of the expressions behind, one after another.
+    pub fn with_all(mut self, alloc: Global, exprs: &'a [Expr]) -> Result<Aggregates<'a>, NoMemory>
+        ensures found { IfOk result (λ a. a.found ≡ (self.entry.found || list_any is_aggregated exprs.now)) }
+        ensures arguments { IfOk result (λ a. lent a.arguments.items ≡ lent self.entry.arguments.items ++ flat_map arguments_in exprs.now) }
     {
-        add_list(alloc, exprs, self)
+        add_list(alloc, exprs, &mut self)?;
+        Ok(self)
     }
 }

@@ -3,8 +3,6 @@
 
 mod aggregates;
 mod spine;
-#[cfg(test)]
-mod tests;
 
 pub use aggregates::Aggregates;
 pub use spine::{Operation, Spine};

@@ -5,8 +5,8 @@ use Rattle.wat_walk.proofs.Chains.{first_fits, operand_is_smaller}
 use Rattle.wat_walk.specs.Chain.{chain}
 use Rattle.std.proofs.lemmas.Result.{IfOk-weaker}
 use Rattle.wat_expr.specs.Evaluation.{outcome_of}
-use Rattle.wat_expr.specs.LeftOperand.{outcome_so_far}
-use Rattle.wat_expr.specs.Context.{over_context}
+use Rattle.wat_expr.specs.Private.{outcome_so_far}
+use Rattle.wat_expr.specs.Private.{over_context}
 use Rattle.wat_expr.proofs.EvaluationLemmas.{chain_done, in_list_is}
 use Rattle.wat_expr.proofs.evaluation.+evaluation.Goals as goal
 

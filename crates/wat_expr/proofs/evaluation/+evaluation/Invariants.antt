@@ -3,8 +3,9 @@ use Rattle.wat_ast.specs.declared.expression.BinaryOp.TheVariants.{Equal}
 use Rattle.wat_expr.specs.Logic.{disjunction}
 use Rattle.wat_expr.specs.Operators.{comparison}
 use Rattle.wat_expr.specs.Evaluation.{outcome_of, over}
-use Rattle.wat_expr.specs.LeftOperand.{outcome_so_far}
-use Rattle.wat_expr.specs.Context.{over_context, lent}
+use Rattle.wat_expr.specs.Private.{outcome_so_far}
+use Rattle.wat_walk.specs.Lent.{lent}
+use Rattle.wat_expr.specs.Private.{over_context}
 use Rattle.wat_expr.proofs.EvaluationLemmas.{operation_step}
 use Rattle.wat_expr.proofs.evaluation.+evaluation.Given as goal
 

@@ -1,6 +1,6 @@
 use Rattle.std.proofs.Common.{◌≡◌, ◌+◌, ◌++◌, ◌||◌, ◌∷◌, [], drop, true, false, sym, ap, ◌∙◌, append-nil}
 use Rattle.std.proofs.lemmas.List.{at_drop_all}
-use Rattle.wat_group.specs.Order.{key_eq}
+use Rattle.wat_value.specs.Order.{key_eq}
 use Rattle.wat_group.specs.Query.{Row, first_of_each}
 use Rattle.wat_group.proofs.FirstOfEach.{is_among, unmet, seen_rows, among_after, among_by_keys, met_step, new_step, unmet-none, not_true, not_false}
 use Rattle.wat_group.proofs.distinct.first_of_each.Goals as goal

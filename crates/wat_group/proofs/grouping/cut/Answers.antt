@@ -1,7 +1,7 @@
 use Rattle.std.proofs.Common.{◌≡◌, arith, take, drop, subst, sym, ap, ◌∙◌, length-drop}
 use Rattle.std.proofs.lemmas.List.{take_rest, drop-drop}
 use Rattle.sqlite_trees.specs.Tree.{IsAscending}
-use Rattle.wat_group.specs.Taken.{over_of, rows_in, IsAtMost}
+use Rattle.wat_group.specs.Private.{over_of, rows_in, IsAtMost}
 use Rattle.wat_expr.specs.Evaluation.{over_group}
 use Rattle.wat_group.proofs.Runs.{IsRun, same_key, run_at, group_pushed}
 use Rattle.wat_group.proofs.grouping.cut.Goals as goal

@@ -1,7 +1,7 @@
 use Rattle.std.proofs.Common.{◌≡◌, ◌≤◌, ◌-◌, ◌++◌, map, length, drop}
 use Rattle.sqlite_trees.specs.Tree.{IsAscending}
 use Rattle.wat_group.specs.Query.{over_all}
-use Rattle.wat_group.specs.Taken.{over_of, rows_in, IsAtMost, classes}
+use Rattle.wat_group.specs.Private.{over_of, rows_in, IsAtMost, classes}
 use Rattle.wat_group.proofs.grouping.cut.Given as goal
 
 abbrev pub invariant-loop-start : goal.invariant-loop-start

@@ -7,7 +7,8 @@ use Rattle.wat_value.specs.Order.{key_cmp}
 use Rattle.wat_value.specs.OrderLaws.{key_cmp_total}
 use Rattle.wat_group.specs.declared.keyed.Keyed.{Keyed}
 use Rattle.wat_group.specs.Query.{unless, fails_before_groups, group_values, groups_at, over_all}
-use Rattle.wat_group.specs.Taken.{IsAtMost, pointed, keyed_as, rows_in, under, classes}
+use Rattle.wat_walk.specs.Lent.{lent}
+use Rattle.wat_group.specs.Private.{IsAtMost, keyed_as, rows_in, under, classes}
 use Rattle.wat_group.proofs.Sorting.{ascending-sort_by}
 use Rattle.wat_group.proofs.Unless.{from_some}
 use Rattle.wat_group.proofs.GroupsOfRuns.{groups_are}
@@ -21,7 +22,7 @@ cut-requires c =
 pub returns : goal.returns
 returns c =
     let q = c.args.query.now in
-    let rows = pointed c.args.rows.now in
+    let rows = lent c.args.rows.now in
     let keyed = c.in-Some.keyed.items in
     let found : Some (keyed_as keyed) ≡ unless (list_any (fails_before_groups q) rows) (map (under (group_values q)) rows) = rw c.in-Some.is at c.in_ok-keyed.ensures in
     let sound = from_some (list_any (fails_before_groups q) rows) (map (under (group_values q)) rows) (keyed_as keyed) found in

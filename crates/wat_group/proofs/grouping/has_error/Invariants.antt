@@ -2,7 +2,7 @@ use Rattle.std.proofs.Common.{◌≡◌, map, drop}
 use Rattle.wat_walk.specs.Lent.{lent}
 use Rattle.wat_expr.specs.Evaluation.{outcome_of}
 use Rattle.wat_group.specs.Query.{has_error}
-use Rattle.wat_group.specs.Taken.{over_of}
+use Rattle.wat_group.specs.Private.{over_of}
 use Rattle.wat_group.proofs.grouping.has_error.Given as goal
 
 abbrev pub invariant-loop-expr : goal.invariant-loop-expr

@@ -1,6 +1,6 @@
 use Rattle.std.proofs.Common.{◌≡◌, ◌+◌, drop}
 use Rattle.std.specs.List.{prefix_len}
-use Rattle.wat_group.specs.Order.{key_eq}
+use Rattle.wat_value.specs.Order.{key_eq}
 use Rattle.wat_group.proofs.grouping.run_length.Given as goal
 
 abbrev pub invariant-loop-length : goal.invariant-loop-length

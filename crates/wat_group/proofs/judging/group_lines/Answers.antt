@@ -1,5 +1,5 @@
 use Rattle.std.proofs.Common.{◌+◌, ◌++◌, drop, sym, ap, ◌∙◌}
-use Rattle.wat_group.specs.Taken.{over_of}
+use Rattle.wat_group.specs.Private.{over_of}
 use Rattle.wat_group.proofs.JudgedLemmas.{from_dropped, from_kept, kept_lines, next_fails, lines_dropped, lines_kept}
 use Rattle.wat_group.proofs.judging.group_lines.Goals as goal
 

@@ -1,7 +1,7 @@
 use Rattle.std.proofs.Common.{◌≡◌, ◌++◌, map, drop}
 use Rattle.std.specs.List.{filter, list_any}
 use Rattle.wat_group.specs.Query.{fails_group, is_kept, line_at}
-use Rattle.wat_group.specs.Taken.{over_of}
+use Rattle.wat_group.specs.Private.{over_of}
 use Rattle.wat_group.proofs.judging.group_lines.Given as goal
 
 abbrev pub invariant-loop-group : goal.invariant-loop-group

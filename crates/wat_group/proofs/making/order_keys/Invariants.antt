@@ -1,6 +1,6 @@
 use Rattle.std.proofs.Common.{◌≡◌, ◌++◌, map, drop}
 use Rattle.wat_group.specs.Query.{has_error, order_outcome, order_key}
-use Rattle.wat_group.specs.Taken.{over_of}
+use Rattle.wat_group.specs.Private.{over_of}
 use Rattle.wat_group.proofs.making.order_keys.Given as goal
 
 abbrev pub invariant-loop-item : goal.invariant-loop-item

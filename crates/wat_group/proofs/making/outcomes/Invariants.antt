@@ -1,6 +1,6 @@
 use Rattle.std.proofs.Common.{◌≡◌, ◌++◌, map, drop}
 use Rattle.wat_expr.specs.Evaluation.{outcome_of}
-use Rattle.wat_group.specs.Taken.{over_of}
+use Rattle.wat_group.specs.Private.{over_of}
 use Rattle.wat_group.proofs.making.outcomes.Given as goal
 
 abbrev pub invariant-loop-expr : goal.invariant-loop-expr

@@ -3,7 +3,7 @@ use Rattle.wat_ast.specs.declared.expression.BinaryOp.{BinaryOp}
 use Rattle.wat_ast.specs.declared.expression.BinaryOp.TheVariants.{Add, Subtract, Multiply, Divide}
 use Rattle.wat_expr.specs.declared.outcome.Outcome.{Outcome}
 use Rattle.wat_expr.specs.Operators.{arithmetic, binary}
-use Rattle.wat_expr.specs.LeftOperand.{outcome_so_far}
+use Rattle.wat_expr.specs.Private.{outcome_so_far}
 use Rattle.wat_expr.proofs.left_operand.LeftOperand.operated.Goals as goal
 
 is_arithmetic : (op : BinaryOp) (a b : Outcome) → (op ≡ Add) ⊎ ((op ≡ Subtract) ⊎ ((op ≡ Multiply) ⊎ (op ≡ Divide))) → arithmetic op a b ≡ binary op a b
