@@ -5,10 +5,8 @@ mod laws;
 mod reading;
 mod statement;
 mod table;
-#[cfg(test)]
-mod tests;
 
 pub use laws::answer_laws;
 pub use reading::{read_statement, served};
 pub use statement::Statement;
-pub use table::{RowMap, Table};
+pub use table::{RowMap, Table, row_of};

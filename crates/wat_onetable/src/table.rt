@@ -40,8 +40,8 @@ impl Model for Table {
     ghost invariant = { λ table. length (unwrap_or (items_of table.inserted) []) ≤ most_inserts };
 }
 
-/// A row as it is answered.
-fn row_of(alloc: Global, key: i32, value: i32) -> Result<Row, NoMemory>
+/// A row as it is answered, and as it is encoded.
+pub fn row_of(alloc: Global, key: i32, value: i32) -> Result<Row, NoMemory>
     ensures { IfOk result (λ row. row ≡ table.row_of (key, value)) }
 {
     let mut row = Items::new(alloc);
@@ -65,7 +65,7 @@ fn rows_of(alloc: Global, rows: &RowMap) -> Result<Rows, NoMemory>
 fn key_of(alloc: Global, key: i32) -> Result<Key, NoMemory>
     ensures { IfOk result (λ it. it ≡ Value.Int key ∷ []) }
 {
-    let mut it = Items::new(alloc);
+    let mut it = Key::new(alloc);
     it.push(Value::Int(i64::from(key)))?;
     Ok(it)
 }

@@ -16,7 +16,7 @@ use Rattle.wat_onetable.specs.declared.statement.Statement.{Statement}
 use Rattle.wat_onetable.specs.declared.statement.Statement.TheVariants.{Insert, Select, Commit, Other, Malformed}
 use Rattle.wat_onetable.specs.History.{answers_from, stopped_answers, span_of, Fits}
 use Rattle.wat_play.specs.Kept.{is_no_stop, answered_of}
-use Rattle.wat_play.specs.Session.{stopped_at, unanswered, IsAnswered}
+use Rattle.wat_play.specs.Answered.{stopped_at, unanswered, IsAnswered}
 use Rattle.wat_play.proofs.SessionLemmas.{answers_from-take}
 
 -- no answer of the table is a stop
@@ -110,8 +110,3 @@ fits rows text stop entries all left are added behind =
       within = omega (arith, count, are.within);
       whole = λ none. count ∙ are.whole none;
     }
-
--- a fact that holds anyway
-pub on_err : {A E : Type 0} (P : Type 0) (result : Result A E) → P → OnErr result P
-on_err P (Ok x) p = tt
-on_err P (Err e) p = p

@@ -14,7 +14,7 @@ use Rattle.wat_onetable.specs.Table.{State, begun, pending, put, put_all, is_int
 use Rattle.wat_onetable.specs.History.{state_after, committed_by, history_from, all_rows, rows_after}
 use Rattle.wat_onetable.proofs.Histories.{put_all-append, all_rows-append, rows_after-append}
 use Rattle.wat_rowlog.specs.Logged.{body_of, Restarts}
-use Rattle.wat_play.specs.Saved.{saved_by}
+use Rattle.wat_play.specs.Answered.{saved_by}
 
 pub all_rows-one : (t : List (ℤ × ℤ)) → all_rows (t ∷ []) ≡ t
 all_rows-one t = flat_map-cons (λ t. t) t [] ∙ append-nil t

@@ -1,3 +1,3 @@
+pub mod Answered
 pub mod Kept
-pub mod Saved
 pub mod Session

@@ -1,43 +1,39 @@
--- What a session has done of a script by the time at which it has answered so many statements.
-use Rattle.std.specs.Prelude.{◌≡◌, ◌≢◌, ℕ, ◌≤◌, List, [], length, take, map, Option, None, Some, IsSome, ℤ}
-use Rattle.wat_conn.specs.declared.answer.Answer.TheVariants.{Stopped}
+-- A session of one script over the rows of the log.
+use Rattle.std.specs.Prelude.{◌≡◌, ◌≢◌, ℕ, ◌+◌, ◌≤◌, List, [], length, map, Option, None, Some, IsSomeAnd}
 use Rattle.wat_conn.specs.declared.answer.Reason.{Reason}
 use Rattle.wat_conn.specs.declared.answer.Reason.TheVariants.{DiskFault}
-use Rattle.wat_parse.specs.declared.script.Span.{Span}
-use Rattle.wat_parse.specs.Statements.{statements_of as spans_of}
 use Rattle.wat_conn.specs.declared.session.Entry.{Entry}
-use Rattle.wat_disk.specs.Disk.{Told, SameOthers, Rose}
-use Rattle.wat_onetable.specs.Statement.{statements_of}
-use Rattle.wat_onetable.specs.Table.{begun}
-use Rattle.wat_onetable.specs.History.{answers_from, history_of, rows_after, span_of}
+use Rattle.wat_disk.specs.Disk.{SameOthers, IsSynced}
+use Rattle.wat_faults.specs.Faults.{Rose}
+use Rattle.wat_stops.specs.Commits.{KeepsCommits}
+use Rattle.wat_stops.specs.Moments.{AreMoments, last_moment, moments_after}
+use Rattle.wat_onetable.specs.History.{Fits, rows_after}
 use Rattle.wat_rowlog.specs.Logged.{Restarts}
-use Rattle.wat_play.specs.Kept.{cut_of, AreMoments, last_moment}
+use Rattle.wat_play.specs.Kept.{Setting, answered_of, transactions_of, cut_of, commits_of, commit_calls}
 
--- the entry of a statement that wasn't answered
-abbrev pub stopped_at : Reason → Span → Entry
-stopped_at reason span = record { from = span.from; to = span.to; answer = Stopped reason }
+-- What a session leaves that has answered so many statements, with the moments of its commits, and that was stopped or not.
+pub record HasAnswered (s : Setting) (answered : ℕ) (stop : Option Reason) (moments : List ℕ) : Type 0 where
+  -- each commit has its moment
+  pub commits : length moments ≡ length (transactions_of s answered)
+  pub order : AreMoments s.entry.moment s.now.moment moments
+  -- It makes a commit's calls on the disk, and no others: each moment is that after the commit's last call, and where the disk
+  -- did not stop it, that is the disk's moment now.
+  pub noted : moments ≡ moments_after s.start (map commit_calls (transactions_of s answered))
+  pub calls : stop ≢ Some DiskFault → s.now.moment ≡ last_moment s.start moments
+  pub cut_calls : stop ≡ Some DiskFault → s.now.moment ≤ last_moment s.start moments + 4
+  pub disk_fault : stop ≡ Some DiskFault → Rose s.entry.faults s.now.faults
+  -- it stops for the disk only where the next statement is the COMMIT of an open transaction that has rows
+  pub at_commit : stop ≡ Some DiskFault → IsSomeAnd (cut_of s answered stop) (λ cut. cut ≢ [])
+  pub never_falls : s.entry.faults ≤ s.now.faults
+  pub faults_stay : stop ≢ Some DiskFault → s.now.faults ≡ s.entry.faults
+  pub others : SameOthers s.file s.entry.content s.now.content
+  -- where nothing stopped, restart gives the rows after all transactions
+  pub kept : s.tells → stop ≡ None → Restarts (s.now.content s.file) (rows_after s.rows (transactions_of s answered))
 
--- the entries of the statements that weren't answered
-abbrev pub unanswered : Option Reason → List Span → List Entry
-unanswered None spans = []
-unanswered (Some reason) spans = map (stopped_at reason) spans
-
--- These are the entries of the first statements; where nothing stopped, of all.
-pub record IsAnswered (rows : List (ℤ × ℤ)) (text : List ℕ) (stop : Option Reason) (entries : List Entry) : Type 0 where
-  pub spans : map span_of entries ≡ take (length entries) (spans_of text)
-  pub answers : map (λ e. e.answer) entries ≡ take (length entries) (answers_from (begun rows) (statements_of text))
-  pub within : length entries ≤ length (statements_of text)
-  pub whole : stop ≡ None → length entries ≡ length (statements_of text)
-
--- A session from entry to now over these rows, which has answered so many statements of the text.
-pub record IsSession (tells : Type 0) (entry now : Told) (file : ℕ) (rows : List (ℤ × ℤ)) (text : List ℕ) (answered : ℕ) (stop : Option Reason) (moments : List ℕ) : Type 0 where
-  pub commits : length moments ≡ length (history_of rows text answered)
-  pub order : AreMoments entry.moment now.moment moments
-  pub calls : stop ≢ Some DiskFault → now.moment ≡ last_moment entry.moment moments
-  pub disk_fault : stop ≡ Some DiskFault → Rose entry now
-  -- it stops for the disk only where the next statement is the COMMIT of an open transaction
-  pub at_commit : stop ≡ Some DiskFault → IsSome (cut_of stop rows text answered)
-  pub never_falls : entry.faults ≤ now.faults
-  pub faults_stay : stop ≢ Some DiskFault → now.faults ≡ entry.faults
-  pub kept : tells → stop ≡ None → Restarts (now.content file) (rows_after rows (history_of rows text answered))
-  pub others : SameOthers file entry.content now.content
+-- These are the entries of a session, why it stopped, if it did, and the moments of its commits.
+pub record IsSession (s : Setting) (entries : List Entry) (stop : Option Reason) (moments : List ℕ) : Type 0 where
+  -- each statement has its answer over the rows, or the stop
+  pub fits : Fits s.rows s.text stop (answered_of entries) entries
+  pub leaves : HasAnswered s (answered_of entries) stop moments
+  -- a stop at any moment leaves a log that keeps each commit acknowledged by then
+  pub stops : s.tells → IsSynced s.entry s.file → KeepsCommits (commits_of s (answered_of entries) stop moments)

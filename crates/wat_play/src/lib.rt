@@ -4,7 +4,5 @@
 mod player;
 mod playing;
 mod saving;
-#[cfg(test)]
-mod tests;
 
 pub use playing::{Played, play};

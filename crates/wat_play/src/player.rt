@@ -1,20 +1,20 @@
 // The answers of a session, and the commits that they make.
 ghost use Rattle.std.specs.Prelude.{◌≡◌, ◌≢◌, ◌+◌, ◌<◌, ◌≤◌, ◌^◌, ◌++◌, [], ◌∷◌, map, length, OnOk, OnErr, IfOk};
-ghost use Rattle.wat_disk.specs.Disk.{IsSynced, InFile, SameOthers, EachStop, HasCause};
+ghost use Rattle.wat_disk.specs.Disk.{IsSynced, InFile, SameOthers, EachStop, MakesAtMost};
+ghost use Rattle.wat_faults.specs.Faults.{HasCause};
 ghost use Rattle.wat_gate.specs.GateLog.{file_of, bodies_in, IsLogOf};
 ghost use Rattle.wat_onetable.specs.Table.{answer_of, after};
 ghost use Rattle.wat_onetable.specs.History.{committed_by};
 ghost use Rattle.wat_onetable.specs.declared.statement.Statement.TheVariants.{Insert, Select, Commit, Other};
 ghost use Rattle.wat_rowlog.specs.Logged.{body_of};
 ghost use Rattle.wat_conn.specs.declared.answer.Reason.TheVariants.{DiskFault, Memory};
-ghost use Rattle.wat_play.specs.Saved.{saved_by, KeepsOrSaves};
+ghost use Rattle.wat_play.specs.Answered.{saved_by, moment_by, KeepsOrSaves};
 
 use crate::saving::save;
 use std::alloc::Global;
-use wat_conn::{Answer, Reason};
+use wat_conn::{Answer, Moments, Reason};
 use wat_disk::Disk;
 use wat_gate::GateLog;
-use wat_list::Reserved;
 use wat_onetable::{Statement, Table};
 
 /// A session under way: the table, its log, and the moments of the commits so far.
@@ -22,7 +22,7 @@ use wat_onetable::{Statement, Table};
 pub struct Player {
     pub table: Table,
     pub log: GateLog,
-    pub moments: Reserved<u64>,
+    pub moments: Moments,
 }
 
 impl Player {
@@ -38,10 +38,11 @@ impl Player {
         ensures others { SameOthers (file_of self.old.log) (D.told disk.old).content (D.told disk.new).content }
         ensures stops { D.tells_content → IsSynced (D.told disk.old) (file_of self.old.log)
             → EachStop (D.told disk.old) (D.told disk.new) (InFile (file_of self.old.log) (KeepsOrSaves (saved_by self.old.table Commit))) }
-        ensures cause { HasCause (D.told disk.old) (D.told disk.new) (result ≡ Err Reason.DiskFault) }
+        ensures cause { HasCause (D.told disk.old).faults (D.told disk.new).faults (result ≡ Err Reason.DiskFault) }
         ensures memory { result ≡ Err Reason.Memory → disk.new ≡ disk.old }
         ensures fault { result ≡ Err Reason.DiskFault → saved_by self.old.table Commit ≢ [] }
-        ensures quiet { saved_by self.old.table Commit ≡ [] → disk.new ≡ disk.old }
+        ensures calls { OnOk result ((D.told disk.new).moment ≡ moment_by self.old.table Commit (D.told disk.old).moment) }
+        ensures calls_at_most { MakesAtMost 4 (D.told disk.old) (D.told disk.new) }
     {
         let rows = self.table.pending();
         if rows.is_empty() {
@@ -67,10 +68,11 @@ impl Player {
         ensures others { SameOthers (file_of self.old.log) (D.told disk.old).content (D.told disk.new).content }
         ensures stops { D.tells_content → IsSynced (D.told disk.old) (file_of self.old.log)
             → EachStop (D.told disk.old) (D.told disk.new) (InFile (file_of self.old.log) (KeepsOrSaves (saved_by self.old.table Commit))) }
-        ensures cause { HasCause (D.told disk.old) (D.told disk.new) (result ≡ Err Reason.DiskFault) }
+        ensures cause { HasCause (D.told disk.old).faults (D.told disk.new).faults (result ≡ Err Reason.DiskFault) }
         ensures memory { result ≡ Err Reason.Memory → disk.new ≡ disk.old }
         ensures fault { result ≡ Err Reason.DiskFault → saved_by self.old.table Commit ≢ [] }
-        ensures quiet { committed_by self.old.table Commit ≡ [] → disk.new ≡ disk.old }
+        ensures calls { OnOk result ((D.told disk.new).moment ≡ moment_by self.old.table Commit (D.told disk.old).moment) }
+        ensures calls_at_most { MakesAtMost 4 (D.told disk.old) (D.told disk.new) }
     {
         match self.save(alloc, disk) {
             Ok(()) => {}
@@ -104,10 +106,11 @@ impl Player {
         ensures others { SameOthers (file_of self.old.log) (D.told disk.old).content (D.told disk.new).content }
         ensures stops { D.tells_content → IsSynced (D.told disk.old) (file_of self.old.log)
             → EachStop (D.told disk.old) (D.told disk.new) (InFile (file_of self.old.log) (KeepsOrSaves (saved_by self.old.table statement))) }
-        ensures cause { HasCause (D.told disk.old) (D.told disk.new) (result ≡ Err Reason.DiskFault) }
+        ensures cause { HasCause (D.told disk.old).faults (D.told disk.new).faults (result ≡ Err Reason.DiskFault) }
         ensures memory { result ≡ Err Reason.Memory → disk.new ≡ disk.old }
         ensures fault { result ≡ Err Reason.DiskFault → saved_by self.old.table statement ≢ [] }
-        ensures quiet { committed_by self.old.table statement ≡ [] → disk.new ≡ disk.old }
+        ensures calls { OnOk result ((D.told disk.new).moment ≡ moment_by self.old.table statement (D.told disk.old).moment) }
+        ensures calls_at_most { MakesAtMost 4 (D.told disk.old) (D.told disk.new) }
     {
         match statement {
             Statement::Commit => self.commit(alloc, disk),

@@ -1,16 +1,18 @@
 ghost use Rattle.std.specs.Prelude.{◌≡◌, ◌≢◌, ◌+◌, ◌<◌, ◌≤◌, ◌^◌, ◌++◌, [], ℕ, length, map, None, Some, Err, IfOk, IsSome, OnOk, OnErr};
-ghost use Rattle.wat_disk.specs.Disk.{IsSynced, InFile, SameFiles, SameOthers, EachStop, HasCause, Rose};
+ghost use Rattle.wat_disk.specs.Disk.{IsSynced, InFile, SameOthers, EachStop, MakesAtMost};
+ghost use Rattle.wat_faults.specs.Faults.{HasCause};
 ghost use Rattle.wat_gate.specs.GateLog.{file_of, bodies_in, IsLogOf};
 ghost use Rattle.wat_parse.specs.Statements.{statements_of as spans_of};
 ghost use Rattle.std.specs.List.{Contains};
 ghost use Rattle.wat_onetable.specs.Statement.{statement_at};
 ghost use Rattle.wat_onetable.specs.Table.{begun, answer_of, after};
-ghost use Rattle.wat_onetable.specs.History.{Fits, committed_by, history_of, rows_after, span_of, stopped_answers};
+ghost use Rattle.wat_onetable.specs.History.{committed_by};
 ghost use Rattle.wat_rowlog.specs.Opened.{IsOpened};
-ghost use Rattle.wat_rowlog.specs.Logged.{body_of, Restarts};
-ghost use Rattle.wat_play.specs.Saved.{saved_by, KeepsOrSaves};
-ghost use Rattle.wat_play.specs.Kept.{answered_of, cut_of, KeepsCommits, AreMoments, last_moment};
-ghost use Rattle.wat_play.specs.Session.{stopped_at, unanswered, IsAnswered, IsSession};
+ghost use Rattle.wat_rowlog.specs.Logged.{body_of, log_file, Restarts};
+ghost use Rattle.wat_stops.specs.Commits.{KeepsCommits};
+ghost use Rattle.wat_play.specs.Kept.{commits_of};
+ghost use Rattle.wat_play.specs.Session.{HasAnswered, IsSession};
+ghost use Rattle.wat_play.specs.Answered.{under_way, stopped_at, unanswered, IsAnswered, saved_by, moment_by, KeepsOrSaves};
 
 use crate::player::Player;
 use std::alloc::Global;
@@ -19,7 +21,7 @@ use wat_disk::Disk;
 use wat_list::{NoMemory, Reserved};
 use wat_onetable::{Table, read_statement};
 use wat_parse::{Span, statements};
-use wat_rowlog::{LOG, Opened};
+use wat_rowlog::Opened;
 
 /// What playing a script came to.
 #[derive(Debug, Drop)]
@@ -57,10 +59,11 @@ fn answer_at<D: Disk>(
     ensures others { SameOthers (file_of player.old.log) (D.told disk.old).content (D.told disk.new).content }
     ensures stops { D.tells_content → IsSynced (D.told disk.old) (file_of player.old.log)
         → EachStop (D.told disk.old) (D.told disk.new) (InFile (file_of player.old.log) (KeepsOrSaves (saved_by player.old.table (statement_at script.now span)))) }
-    ensures cause { HasCause (D.told disk.old) (D.told disk.new) (result ≡ Err Reason.DiskFault) }
+    ensures cause { HasCause (D.told disk.old).faults (D.told disk.new).faults (result ≡ Err Reason.DiskFault) }
     ensures memory { result ≡ Err Reason.Memory → disk.new ≡ disk.old }
     ensures fault { result ≡ Err Reason.DiskFault → saved_by player.old.table (statement_at script.now span) ≢ [] }
-    ensures quiet { committed_by player.old.table (statement_at script.now span) ≡ [] → disk.new ≡ disk.old }
+    ensures calls { OnOk result ((D.told disk.new).moment ≡ moment_by player.old.table (statement_at script.now span) (D.told disk.old).moment) }
+    ensures calls_at_most { MakesAtMost 4 (D.told disk.old) (D.told disk.new) }
 {
     match read_statement(alloc, script, span) {
         Ok(statement) => player.answer(alloc, statement, disk),
@@ -75,7 +78,7 @@ fn answer_until_stop<D: Disk>(
     spans: &[Span],
     player: &mut Player,
     disk: &mut D,
-    entries: &mut Reserved<Entry>,
+    entries: &mut Transcript,
 ) -> Option<Reason>
     requires spans { spans.now ≡ spans_of script.now }
     requires short { length script.now ≤ 16777216 }
@@ -88,11 +91,9 @@ fn answer_until_stop<D: Disk>(
     requires known { D.tells_content → IsLogOf (D.told disk.old) player.old.log }
     requires restarts { D.tells_content → Restarts ((D.told disk.old).content (file_of player.old.log)) player.old.table.rows }
     ensures answered { IsAnswered player.old.table.rows script.now result entries.new.items }
-    ensures session { IsSession D.tells_content (D.told disk.old) (D.told disk.new) (file_of player.old.log) player.old.table.rows script.now (length entries.new.items) result player.new.moments.items }
+    ensures leaves { HasAnswered (under_way D.tells_content (D.told disk.old) (file_of player.old.log) player.old.table.rows script.now (D.told disk.new)) (length entries.new.items) result player.new.moments.items }
     ensures stops { D.tells_content → IsSynced (D.told disk.old) (file_of player.old.log) →
-        KeepsCommits (D.told disk.old) (D.told disk.new) (file_of player.old.log) player.old.table.rows
-        (history_of player.old.table.rows script.now (length entries.new.items)) player.new.moments.items
-        (cut_of result player.old.table.rows script.now (length entries.new.items)) }
+        KeepsCommits (commits_of (under_way D.tells_content (D.told disk.old) (file_of player.old.log) player.old.table.rows script.now (D.told disk.new)) (length entries.new.items) result player.new.moments.items) }
     ensures room { length spans.now ≤ length entries.new.items + entries.new.spare }
 {
     for span in spans {
@@ -109,7 +110,7 @@ fn answer_until_stop<D: Disk>(
 }
 
 /// Adds the entries of the statements at these places, all of which are this stop.
-fn push_stopped(spans: &[Span], reason: Reason, entries: &mut Reserved<Entry>)
+fn push_stopped(spans: &[Span], reason: Reason, entries: &mut Transcript)
     requires { length spans.now ≤ entries.old.spare }
     ensures { entries.new.items ≡ entries.old.items ++ map (stopped_at reason) spans.now }
 {
@@ -123,7 +124,7 @@ fn push_stopped(spans: &[Span], reason: Reason, entries: &mut Reserved<Entry>)
 }
 
 /// Adds the entries of the statements that weren't answered, if the session stopped.
-fn push_unanswered(spans: &[Span], stop: Option<Reason>, entries: &mut Reserved<Entry>)
+fn push_unanswered(spans: &[Span], stop: Option<Reason>, entries: &mut Transcript)
     requires { length spans.now ≤ entries.old.spare }
     ensures { entries.new.items ≡ entries.old.items ++ unanswered stop spans.now }
 {
@@ -151,39 +152,21 @@ pub fn play<D: Disk>(
     disk: &mut D,
 ) -> Result<Played, NoMemory>
     requires short { length script.now ≤ 16777216 }
-    requires file { file_of opened.log ≡ LOG.0 }
+    requires file { file_of opened.log ≡ log_file }
     requires opened { D.tells_content → IsOpened (D.told disk.old) opened }
-
-    // Each statement has its entry, with the answer over the opened rows, or the stop.
-    ensures fits { IfOk result (λ played.
-        Fits opened.rows.entries script.now played.stop (answered_of played.transcript) played.transcript) }
-    ensures commits { IfOk result (λ played.
-        length played.moments ≡ length (history_of opened.rows.entries script.now (answered_of played.transcript))) }
-    ensures moments { IfOk result (λ played. AreMoments (D.told disk.old).moment (D.told disk.new).moment played.moments) }
-    // Without a disk fault, no call on the disk is made after the last commit.
-    ensures calls { IfOk result (λ played. played.stop ≢ Some Reason.DiskFault → (D.told disk.new).moment ≡ last_moment (D.told disk.old).moment played.moments) }
-    ensures disk_fault { IfOk result (λ played. played.stop ≡ Some Reason.DiskFault → Rose (D.told disk.old) (D.told disk.new)) }
-    // It stops for the disk only where the next statement is the COMMIT of an open transaction.
-    ensures at_commit { IfOk result (λ played. played.stop ≡ Some Reason.DiskFault →
-        IsSome (cut_of played.stop opened.rows.entries script.now (answered_of played.transcript))) }
+    // The entries, the moments and the stop are those of a session over the opened rows.
+    ensures session { IfOk result (λ played. IsSession (record {
+      tells = D.tells_content;
+      entry = D.told disk.old;
+      now = D.told disk.new;
+      start = (D.told disk.old).moment;
+      file = log_file;
+      rows = opened.rows.entries;
+      text = script.now;
+    }) played.transcript.items played.stop played.moments.items) }
     ensures never_falls { (D.told disk.old).faults ≤ (D.told disk.new).faults }
-    ensures faults_stay { IfOk result (λ played. played.stop ≢ Some Reason.DiskFault → (D.told disk.new).faults ≡ (D.told disk.old).faults) }
-
-    // Where nothing stopped, restart gives the rows after all transactions.
-    ensures kept { D.tells_content → IfOk result (λ played. played.stop ≡ None → Restarts ((D.told disk.new).content LOG.0)
-        (rows_after opened.rows.entries (history_of opened.rows.entries script.now (answered_of played.transcript)))) }
-    ensures others { SameOthers LOG.0 (D.told disk.old).content (D.told disk.new).content }
-
-    // A stop at any moment leaves a log that keeps each commit acknowledged by then.
-    ensures stops { D.tells_content → IsSynced (D.told disk.old) LOG.0 → IfOk result (λ played.
-        KeepsCommits (D.told disk.old) (D.told disk.new) LOG.0 opened.rows.entries
-        (history_of opened.rows.entries script.now (answered_of played.transcript)) played.moments
-        (cut_of played.stop opened.rows.entries script.now (answered_of played.transcript))) }
-
-    // Where no session began, nothing was written.
-    ensures not_begun { OnErr result (SameFiles (D.told disk.old).content (D.told disk.new).content) }
-    ensures not_begun_faults { OnErr result ((D.told disk.new).faults ≡ (D.told disk.old).faults) }
-    ensures not_begun_stops { OnErr result (EachStop (D.told disk.old) (D.told disk.new) SameFiles) }
+    // Where no session began, the disk was not called.
+    ensures not_begun { OnErr result (disk.new ≡ disk.old) }
 {
     let spans = statements(alloc, script)?;
     let count = spans.len();
@@ -199,8 +182,8 @@ pub fn play<D: Disk>(
     let stop = answer_until_stop(alloc, script, spans, &mut player, disk, &mut entries);
     push_unanswered(&spans[entries.len()..], stop, &mut entries);
     Ok(Played {
-        transcript: entries.into_items(),
-        moments: player.moments.into_items(),
+        transcript: entries,
+        moments: player.moments,
         stop,
     })
 }

@@ -1,6 +1,7 @@
 // The rows of a transaction, put on the disk.
 ghost use Rattle.std.specs.Prelude.{◌≡◌, ◌<◌, ◌≤◌, ◌++◌, [], ◌∷◌, length, OnOk, IfOk};
-ghost use Rattle.wat_disk.specs.Disk.{IsSynced, InFile, SameOthers, EachStop, HasCause};
+ghost use Rattle.wat_disk.specs.Disk.{IsSynced, InFile, SameOthers, EachStop, MakesAtMost, MakesCalls};
+ghost use Rattle.wat_faults.specs.Faults.{HasCause};
 ghost use Rattle.wat_gate.specs.Bodies.{KeepsOrAdds};
 ghost use Rattle.wat_gate.specs.GateLog.{file_of, bodies_in, IsLogOf};
 ghost use Rattle.wat_onetable.specs.Table.{most_inserts};
@@ -27,7 +28,7 @@ fn frame_of(alloc: Global, rows: &[(i32, i32)]) -> Result<Frame, NoMemory>
 }
 
 /// Adds a frame of these rows to the log. At `Ok` it is on the disk. All memory is taken before the first call on the
-/// disk.
+/// disk; a log that would not end below 2^64 wants memory too.
 pub fn save<D: Disk>(
     alloc: Global,
     rows: &[(i32, i32)],
@@ -45,13 +46,18 @@ pub fn save<D: Disk>(
     ensures others { SameOthers (file_of log.old) (D.told disk.old).content (D.told disk.new).content }
     ensures stops { D.tells_content → IsSynced (D.told disk.old) (file_of log.old)
         → EachStop (D.told disk.old) (D.told disk.new) (InFile (file_of log.old) (KeepsOrAdds (body_of rows.now))) }
-    ensures cause { HasCause (D.told disk.old) (D.told disk.new) (result ≡ Err Reason.DiskFault) }
+    ensures calls { OnOk result (MakesCalls 4 (D.told disk.old) (D.told disk.new)) }
+    ensures calls_at_most { MakesAtMost 4 (D.told disk.old) (D.told disk.new) }
+    ensures cause { HasCause (D.told disk.old).faults (D.told disk.new).faults (result ≡ Err Reason.DiskFault) }
     ensures memory { result ≡ Err Reason.Memory → disk.new ≡ disk.old }
 {
     let frame = match frame_of(alloc, rows) {
         Ok(frame) => frame,
         Err(_) => return Err(Reason::Memory),
     };
+    if !log.has_room(&frame) {
+        return Err(Reason::Memory);
+    }
     match log.append(disk, &frame) {
         Ok(()) => Ok(()),
         Err(_) => Err(Reason::DiskFault),

@@ -13,7 +13,8 @@ use Rattle.wat_onetable.specs.Table.{row_of, is_key_of, put, put_all, AreInteger
 use Rattle.wat_onetable.specs.History.{all_rows, rows_after}
 use Rattle.wat_onetable.proofs.Histories.{put_all-append, all_rows-append}
 use Rattle.wat_rowlog.specs.Logged.{body_of, IsLogged, Restarts}
-use Rattle.wat_rowlog.specs.Reading.{IsInteger, BeginsWithRow, BeginsWithNoRow, AreNew, SpellsNew, ReadsBody, IsNoBody, AreBodies, ReadsBodies}
+use Rattle.wat_rowlog.specs.Reading.{IsInteger, BeginsWithRow, BeginsWithNoRow, AreNew, SpellsNew, ReadsBody, IsNoBody, ReadsBodies}
+use Rattle.wat_rowlog.specs.Opening.{AreBodies}
 use Rattle.wat_rowlog.proofs.RowLaws.{row_of-encodable, row_of-cancel, length-body_of-cons, body_of-push, bodies_of-cancel, All-front, All-back, all_rows-push}
 
 -- a key stands in the rows where it is that of the row that was put, or stood before

@@ -1,3 +1,4 @@
 pub mod Bodies
 pub mod Refused
+mod MakingLemmas
 pub mod RowLaws

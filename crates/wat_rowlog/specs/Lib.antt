@@ -1,5 +1,6 @@
 pub mod Laws
 pub mod Logged
+pub mod Making
 pub mod Opened
 pub mod Opening
 pub mod Reading

@@ -6,6 +6,10 @@ use Rattle.wat_value.specs.Encoding.{row_bytes}
 use Rattle.wat_onetable.specs.Table.{row_of, AreIntegers, AreDistinct}
 use Rattle.wat_onetable.specs.History.{all_rows, rows_after}
 
+-- the number of the log's file
+abbrev pub log_file : ℕ
+log_file = 2
+
 -- the body of a frame: the encodings of a transaction's rows, in the order of the inserts
 abbrev pub body_of : List (ℤ × ℤ) → List ℕ
 body_of rows = flat_map (λ row. row_bytes (row_of row)) rows

@@ -1,10 +1,13 @@
--- What the bytes of a frame's body spell, row by row, and the bodies of a log one after another.
+-- What the bytes of a frame's body spell, row by row, and the bodies of a log one after another. It is for the calls inside.
 use Rattle.std.specs.Prelude.{⊤, ◌≡◌, ◌≢◌, ℕ, ◌≤◌, ◌&&◌, false, IsTrue, List, [], ◌∷◌, ◌++◌, length, take, map, ℤ, All}
 use Rattle.std.specs.List.{list_any}
 use Rattle.wat_value.specs.Encoding.{row_bytes}
 use Rattle.wat_onetable.specs.Table.{row_of, is_integer, is_key_of, put, put_all, AreIntegers, AreDistinct}
 use Rattle.wat_onetable.specs.History.{all_rows, rows_after}
 use Rattle.wat_rowlog.specs.Logged.{body_of}
+use Rattle.wat_rowlog.specs.Opening.{AreBodies, IsNoTransactionAt}
+use Rattle.wat_rowlog.specs.declared.opening.OpenWhy.{OpenWhy}
+use Rattle.wat_rowlog.specs.declared.opening.OpenWhy.TheVariants.{NoDatabase, Damaged, DiskFault, Memory}
 
 -- both numbers of a row are INTEGERs
 abbrev pub IsInteger : ℤ × ℤ → Type 0
@@ -41,15 +44,15 @@ pub record ReadsBody (before : List (ℤ × ℤ)) (bytes : List ℕ) (after : Li
 abbrev pub IsNoBody : List (ℤ × ℤ) → List ℕ → Type 0
 IsNoBody rows bytes = (new : List (ℤ × ℤ)) → new ≢ [] → SpellsNew rows bytes new → ⊥
 
--- The bodies are those of these transactions.
-pub record AreBodies (all : List (List ℕ)) (transactions : List (List (ℤ × ℤ))) : Type 0 where
-  pub bodies : all ≡ map body_of transactions
-  pub full : All (λ t. t ≢ []) transactions
-  pub integers : AreIntegers (all_rows transactions)
-  pub distinct : AreDistinct (all_rows transactions)
-
 -- the bodies are those of transactions that give these rows
 pub record ReadsBodies (all : List (List ℕ)) (rows : List (ℤ × ℤ)) : Type 0 where
   pub transactions : List (List (ℤ × ℤ))
   pub are : AreBodies all transactions
   pub is : rows ≡ rows_after [] transactions
+
+-- The rows of a log that is there may be refused so: as damaged at a frame that is no transaction, else by a fault or for want of memory.
+abbrev pub MayRefuse : Type 0 → List ℕ → Type 0 → OpenWhy → Type 0
+MayRefuse tells content rose NoDatabase = ⊥
+MayRefuse tells content rose (Damaged at) = tells → IsNoTransactionAt content at
+MayRefuse tells content rose DiskFault = rose
+MayRefuse tells content rose Memory = ⊤

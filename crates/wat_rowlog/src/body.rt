@@ -1,21 +1,11 @@
 ghost use Rattle.std.specs.Prelude.{◌≡◌, ◌++◌, ◌+◌, ◌*◌, ◌≤◌, length, OnOk, OnErr, IfOk};
-ghost use Rattle.wat_onetable.specs.Table as table;
 ghost use Rattle.wat_rowlog.specs.Logged.{body_of};
 
 use std::alloc::Global;
 use wat_gate::Frame;
-use wat_list::{Items, NoMemory};
-use wat_value::{Row, Value, encode};
-
-/// A row as it is encoded.
-fn row_of(alloc: Global, key: i32, value: i32) -> Result<Row, NoMemory>
-    ensures { IfOk result (λ row. row ≡ table.row_of (key, value)) }
-{
-    let mut row = Items::new(alloc);
-    row.push(Value::Int(i64::from(key)))?;
-    row.push(Value::Int(i64::from(value)))?;
-    Ok(row)
-}
+use wat_list::NoMemory;
+use wat_onetable::row_of;
+use wat_value::encode;
 
 /// Adds the encodings of these rows, keys with their values, at the end of a frame's body: 20 bytes a row. After a refusal
 /// the body is as before.

@@ -1,10 +1,11 @@
-ghost use Rattle.std.specs.Prelude.{◌≡◌, ◌+◌, ◌<◌, [], take, length, IfOk, IfErr};
-ghost use Rattle.wat_disk.specs.Disk.{SameFiles, EachStop, HasCause, Rose};
+ghost use Rattle.std.specs.Prelude.{◌≡◌, ◌+◌, ◌*◌, ◌<◌, ◌^◌, [], take, length, OnOk, IfOk, IfErr};
+ghost use Rattle.wat_disk.specs.Disk.{SameFiles, EachStop, MakesCalls};
+ghost use Rattle.wat_faults.specs.Faults.{HasCause, Rose};
 ghost use Rattle.wat_gate.specs.GateLog.{file_of, frames_of, bodies_in, IsLogOf, IsGateOf};
-ghost use Rattle.wat_rowlog.specs.Logged.{Restarts};
-ghost use Rattle.wat_rowlog.specs.Opening.{MayOpen, MayRefuse};
+ghost use Rattle.wat_rowlog.specs.Logged.{log_file, Restarts};
+ghost use Rattle.wat_rowlog.specs.Opening.{MayOpen};
 ghost use Rattle.wat_rowlog.specs.Opened.{answer_of, why_from, IsOpened};
-ghost use Rattle.wat_rowlog.specs.Reading.{ReadsBodies};
+ghost use Rattle.wat_rowlog.specs.Reading.{MayRefuse, ReadsBodies};
 
 use crate::reading::read_body;
 use std::alloc::Global;
@@ -61,11 +62,12 @@ fn read_frame<D: Disk>(
     ensures read { D.tells_content → IfOk result (λ next. ReadsBodies (take next.gate (bodies_in (D.told disk.new) log.now)) rows.new.entries) }
     ensures next { D.tells_content → IfOk result (λ next. IsGateOf (D.told disk.new) log.now next) }
     ensures one_more { IfOk result (λ next. next.gate ≡ place.gate + 1) }
-    ensures refused { IfErr result (MayRefuse D.tells_content ((D.told disk.old).content (file_of log.now)) (Rose (D.told disk.old) (D.told disk.new))) }
+    ensures refused { IfErr result (MayRefuse D.tells_content ((D.told disk.old).content (file_of log.now)) (Rose (D.told disk.old).faults (D.told disk.new).faults)) }
 
     ensures content { SameFiles (D.told disk.old).content (D.told disk.new).content }
     ensures stops { EachStop (D.told disk.old) (D.told disk.new) SameFiles }
-    ensures cause { HasCause (D.told disk.old) (D.told disk.new) (result ≡ Err OpenWhy.DiskFault) }
+    ensures calls { OnOk result (MakesCalls 4 (D.told disk.old) (D.told disk.new)) }
+    ensures cause { HasCause (D.told disk.old).faults (D.told disk.new).faults (result ≡ Err OpenWhy.DiskFault) }
 {
     body.clear();
     let next = match log.frame_at(disk, place, body) {
@@ -84,11 +86,12 @@ fn read_rows<D: Disk>(alloc: Global, disk: &mut D, log: &GateLog) -> Result<RowM
     requires { D.tells_content → IsLogOf (D.told disk.old) log.now }
 
     ensures restarts { D.tells_content → IfOk result (λ rows. Restarts ((D.told disk.old).content (file_of log.now)) rows.entries) }
-    ensures refused { IfErr result (MayRefuse D.tells_content ((D.told disk.old).content (file_of log.now)) (Rose (D.told disk.old) (D.told disk.new))) }
+    ensures refused { IfErr result (MayRefuse D.tells_content ((D.told disk.old).content (file_of log.now)) (Rose (D.told disk.old).faults (D.told disk.new).faults)) }
 
     ensures content { SameFiles (D.told disk.old).content (D.told disk.new).content }
     ensures stops { EachStop (D.told disk.old) (D.told disk.new) SameFiles }
-    ensures cause { HasCause (D.told disk.old) (D.told disk.new) (result ≡ Err OpenWhy.DiskFault) }
+    ensures calls { (D.told disk.old).moment < 2 ^ 64 → OnOk result (MakesCalls (4 * frames_of log.now) (D.told disk.old) (D.told disk.new)) }
+    ensures cause { HasCause (D.told disk.old).faults (D.told disk.new).faults (result ≡ Err OpenWhy.DiskFault) }
 {
     let mut rows = RowMap::new(alloc);
     let mut body = Vec::new(alloc);
@@ -107,12 +110,14 @@ fn read_rows<D: Disk>(alloc: Global, disk: &mut D, log: &GateLog) -> Result<RowM
 /// A gate log that is broken is `Damaged` at its broken gate, and else at the gate of the first frame whose body is no
 /// list of rows, or repeats a key.
 pub fn open<D: Disk>(alloc: Global, disk: &mut D) -> Result<Opened, OpenWhy>
-    ensures answer { MayOpen D.tells_content ((D.told disk.old).content LOG.0) (Rose (D.told disk.old) (D.told disk.new)) (answer_of result) }
+    ensures answer { MayOpen D.tells_content ((D.told disk.old).content log_file) (Rose (D.told disk.old).faults (D.told disk.new).faults) (answer_of result) }
     ensures opened { D.tells_content → IfOk result (IsOpened (D.told disk.new)) }
-    ensures file { IfOk result (λ opened. file_of opened.log ≡ LOG.0) }
+    ensures file { IfOk result (λ opened. file_of opened.log ≡ log_file) }
     ensures content { SameFiles (D.told disk.old).content (D.told disk.new).content }
     ensures stops { EachStop (D.told disk.old) (D.told disk.new) SameFiles }
-    ensures cause { HasCause (D.told disk.old) (D.told disk.new) (result ≡ Err OpenWhy.DiskFault) }
+    // Its calls are three, and six more for each frame.
+    ensures calls { IfOk result (λ opened. MakesCalls (6 * frames_of opened.log + 3) (D.told disk.old) (D.told disk.new)) }
+    ensures cause { HasCause (D.told disk.old).faults (D.told disk.new).faults (result ≡ Err OpenWhy.DiskFault) }
 {
     match disk.length(LOG) {
         Ok(0) => return Err(OpenWhy::NoDatabase),

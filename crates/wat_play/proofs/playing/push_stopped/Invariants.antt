@@ -1,5 +1,5 @@
 use Rattle.std.proofs.Common.{◌≡◌, ◌+◌, ◌≤◌, ◌++◌, length, map, take}
-use Rattle.wat_play.specs.Session.{stopped_at}
+use Rattle.wat_play.specs.Answered.{stopped_at}
 use Rattle.wat_play.proofs.playing.push_stopped.Given as goal
 
 abbrev pub invariant-loop-span : goal.invariant-loop-span

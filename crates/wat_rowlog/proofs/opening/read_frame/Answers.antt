@@ -1,11 +1,10 @@
 use Rattle.std.proofs.Common.{◌+◌, ◌<◌, ℕ, List, length, get_or, take, [], ◌++◌, Err, sym, ◌∙◌, ap, subst, arith}
 use Rattle.wat_gate.specs.Bodies.{bodies}
 use Rattle.wat_gate.specs.GateLog.{file_of, bodies_in}
-use Rattle.wat_disk.specs.Disk.{Rose}
+use Rattle.wat_faults.specs.Faults.{Rose}
 use Rattle.wat_rowlog.specs.declared.opening.OpenWhy.TheVariants.{DiskFault}
-use Rattle.wat_rowlog.specs.Opening.{MayRefuse}
-use Rattle.wat_rowlog.specs.Reading.{ReadsBody, ReadsBodies, IsNoBody}
-use Rattle.wat_rowlog.proofs.Bodies.{body_read, body_refused, no_rows, on_true, on_false}
+use Rattle.wat_rowlog.specs.Reading.{MayRefuse, ReadsBody, ReadsBodies, IsNoBody}
+use Rattle.wat_rowlog.proofs.Bodies.{body_read, body_refused, on_true, on_false}
 use Rattle.wat_rowlog.proofs.Refused.{fault_from, fault_to, reading_refused, same_why}
 use Rattle.wat_rowlog.proofs.opening.read_frame.Goals as goal
 
@@ -14,15 +13,14 @@ returns-in-Err-clause-refused g c =
     let old = g.D.Disk.told c.args.disk.now in
     let new = g.D.Disk.told c.frame_at.new.disk in
     let content = old.content (file_of c.args.log.now) in
-    subst (MayRefuse g.D.Disk.tells_content content (Rose old new)) (sym c.why_of.ensures)
-    (reading_refused g.D.Disk.tells_content content (Rose old new) c.in-Err.refusal
+    subst (MayRefuse g.D.Disk.tells_content content (Rose old.faults new.faults)) (sym c.why_of.ensures)
+    (reading_refused g.D.Disk.tells_content content (Rose old.faults new.faults) c.in-Err.refusal
     (λ fault. c.frame_at.ensures.cause.rose (c.in-Err.is ∙ ap Err fault))
     c.in-Err.ensures.undamaged)
 
 pub returns-in-Err-clause-cause : goal.returns-in-Err-clause-cause
 returns-in-Err-clause-cause g c = record {
   later = c.frame_at.ensures.cause.later;
-  never_falls = c.frame_at.ensures.cause.never_falls;
   rose = λ e. c.frame_at.ensures.cause.rose (c.in-Err.is ∙ ap Err (fault_from c.in-Err.refusal (sym c.why_of.ensures ∙ same_why c.why_of.result DiskFault e)));
   kept = λ well. c.frame_at.ensures.cause.kept (fault_to c.in-Err.refusal _ c.why_of.result (sym c.in-Err.is) c.why_of.ensures well);
 }
@@ -47,5 +45,11 @@ returns-in-Ok-false-clause-refused g c tells =
     let there : gate < length all = omega (arith, (c.requires.known tells).frames, c.requires.frame) in
     let body = c.deref.ensures.value ∙ c.in-Ok.ensures.body tells ∙ ap (λ (l : List ℕ). l ++ get_or all gate []) c.clear.ensures.items in
     let none = on_false c.in-Ok-false.field-0 (IsNoBody c.args.rows.now.entries c.deref.result.now) c.in-Ok-false.field-0-test c.in-Ok-false.ensures.none in
-    no_rows ((g.D.Disk.told c.args.disk.now).content (file_of c.args.log.now)) (gate + 1)
-    (body_refused all gate c.deref.result.now c.args.rows.now.entries (c.requires.so_far tells) there body none)
+    let read = c.requires.so_far tells in
+    record {
+      frame = gate;
+      gate = c.requires.place tells;
+      before = read.transactions;
+      are = read.are;
+      none = body_refused all gate c.deref.result.now c.args.rows.now.entries read there body none;
+    }

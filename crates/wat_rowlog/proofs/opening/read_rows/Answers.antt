@@ -1,5 +1,5 @@
 use Rattle.std.proofs.Common.{◌≤◌, ℕ, ℤ, List, [], length, refl, sym, ◌∙◌, subst, arith}
-use Rattle.wat_disk.specs.Disk.{Rose}
+use Rattle.wat_faults.specs.Faults.{Rose}
 use Rattle.wat_disk.proofs.Stops.{none_same, both_same}
 use Rattle.wat_gate.specs.Bodies.{bodies}
 use Rattle.wat_gate.specs.GateLog.{file_of}
@@ -18,7 +18,8 @@ loop-place-init g c = record {
   within = omega arith;
   content = λ f. refl;
   stops = none_same (g.D.Disk.told c.args.disk.now);
-  cause = record { later = omega arith; never_falls = omega arith; rose = λ never. absurd never; kept = λ well. refl };
+  calls = λ in_range. omega arith;
+  cause = record { later = omega arith; rose = λ never. absurd never; kept = λ well. refl };
 }
 
 pub returns-in-Err-clause-refused : goal.returns-in-Err-clause-refused
@@ -27,8 +28,8 @@ returns-in-Err-clause-refused g c =
     let mid = g.D.Disk.told c.loop-place.disk in
     let new = g.D.Disk.told c.read_frame.new.disk in
     let file = file_of c.args.log.now in
-    refused_later g.D.Disk.tells_content (mid.content file) (old.content file) (Rose mid new) (Rose old new) c.in-Err.why (c.loop-place.invariant.content file)
-    (rose_since old mid new c.loop-place.invariant.cause.never_falls) c.in-Err.ensures.refused
+    refused_later g.D.Disk.tells_content (mid.content file) (old.content file) (Rose mid.faults new.faults) (Rose old.faults new.faults) c.in-Err.why (c.loop-place.invariant.content file)
+    (rose_since old mid new c.loop-place.invariant.cause.later) c.in-Err.ensures.refused
 
 pub returns-in-Err-clause-stops : goal.returns-in-Err-clause-stops
 returns-in-Err-clause-stops g c = both_same _ _ _ c.loop-place.invariant.stops c.read_frame.ensures.stops
@@ -44,13 +45,17 @@ loop-place-preserved g c =
       within = omega (arith, c.in-Ok.ensures.one_more, c.loop-place-test.true, c.frames.ensures);
       content = λ f. read.content f ∙ i.content f;
       stops = both_same _ _ _ i.stops read.stops;
+      calls = λ in_range. omega (arith, i.calls in_range, c.in-Ok.ensures.calls, c.in-Ok.ensures.one_more);
       cause = record {
         later = omega (arith, i.cause.later, read.cause.later);
-        never_falls = omega (arith, i.cause.never_falls, read.cause.never_falls);
         rose = λ never. absurd never;
         kept = λ well. read.cause.kept (λ e. let ok = c.in-Ok.is in cc) ∙ i.cause.kept well;
       };
     }
+
+pub returns-clause-calls : goal.returns-clause-calls
+returns-clause-calls g c in_range =
+    omega (arith, c.loop-place.invariant.calls in_range, c.loop-place.invariant.within, c.loop-place-test.false, c.frames.ensures)
 
 pub returns-clause-restarts : goal.returns-clause-restarts
 returns-clause-restarts g c tells =

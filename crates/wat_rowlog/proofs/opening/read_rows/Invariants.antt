@@ -1,5 +1,6 @@
-use Rattle.std.proofs.Common.{◌≤◌, ◌-◌, take}
-use Rattle.wat_disk.specs.Disk.{SameFiles, EachStop, HasCause}
+use Rattle.std.proofs.Common.{◌≤◌, ◌<◌, ◌-◌, ◌*◌, ◌^◌, take}
+use Rattle.wat_disk.specs.Disk.{SameFiles, EachStop, MakesCalls}
+use Rattle.wat_faults.specs.Faults.{HasCause}
 use Rattle.wat_gate.specs.GateLog.{frames_of, bodies_in, IsLogOf, IsGateOf}
 use Rattle.wat_rowlog.specs.Reading.{ReadsBodies}
 use Rattle.wat_rowlog.proofs.opening.read_rows.Given as goal
@@ -12,7 +13,8 @@ invariant-loop-place g l = record {
   within : l.place.gate ≤ frames_of l.log;
   content : SameFiles (g.D.Disk.told l.fn.disk).content (g.D.Disk.told l.disk).content;
   stops : EachStop (g.D.Disk.told l.fn.disk) (g.D.Disk.told l.disk) SameFiles;
-  cause : HasCause (g.D.Disk.told l.fn.disk) (g.D.Disk.told l.disk) ⊥;
+  calls : (g.D.Disk.told l.fn.disk).moment < 2 ^ 64 → MakesCalls (4 * l.place.gate) (g.D.Disk.told l.fn.disk) (g.D.Disk.told l.disk);
+  cause : HasCause (g.D.Disk.told l.fn.disk).faults (g.D.Disk.told l.disk).faults ⊥;
 }
 
 abbrev pub decreases-loop-place : goal.decreases-loop-place

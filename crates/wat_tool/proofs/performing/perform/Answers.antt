@@ -1,0 +1,86 @@
+use Rattle.std.proofs.Common.{◌≡◌, [], ℕ, List, Ok, Err, None, Some, Option, Result, refl, sym, ap, subst, map, string_bytes}
+use Rattle.std.specs.Prelude.{⊤}
+use Rattle.wat_disk.specs.Disk.{Told}
+use Rattle.wat_words.specs.Commands.{command_of, names_of}
+use Rattle.wat_words.specs.declared.Command.{Command}
+use Rattle.wat_words.specs.declared.Command.TheVariants.{Init, Run}
+use Rattle.wat_begin.specs.declared.fault.Fault.{Fault}
+use Rattle.wat_tool.proofs.EndingLemmas.{asks_none, or_memory}
+use Rattle.wat_tool.proofs.UntouchedLemmas.{first_byte_here, untouched_here}
+use Rattle.wat_tool.specs.declared.performing.Done.{Done}
+use Rattle.wat_tool.specs.declared.performing.Done.TheVariants.{Made}
+use Rattle.wat_tool.specs.Called.{names_called}
+use Rattle.wat_tool.specs.Ending.{Outside, EndsBy, EndsMade}
+use Rattle.wat_tool.proofs.performing.perform.Goals as goal
+
+pub returns-in-Ok-clause-ends : goal.returns-in-Ok-clause-ends
+returns-in-Ok-clause-ends g c =
+    let words = map string_bytes c.args.words.now in
+    let command : command_of words ≡ Some Init =
+    let read = c.in-Ok-Some-Init.ensures.command in let some = c.in-Ok-Some-Init.field-0-is in let init = c.in-Ok-Some-Init.field-0-0-is in cc in
+    let making = c.in-Ok.ensures.making in
+    let outside : Outside = record {
+      texts = g.L.Scripts.texts c.args.scripts.now;
+      asked_before = g.L.Scripts.asked c.args.scripts.now;
+      asked = g.L.Scripts.asked c.args.scripts.now;
+      script_faults_before = g.L.Scripts.faults c.args.scripts.now;
+      script_faults = g.L.Scripts.faults c.args.scripts.now;
+      tells = g.D.Disk.tells_content;
+      disk_before = g.D.Disk.told c.args.disk.now;
+      disk = g.D.Disk.told c.make_database.new.disk;
+    } in
+    subst (λ (command : Option Command). EndsBy outside words command (Ok Made)) (sym command) (record {
+      making = making.0;
+      may_make = making.1;
+      is = subst (λ (r : Result ⊤ Fault). EndsMade outside r (Ok Made)) making.2 (refl, c.in-Ok.ensures.made);
+    })
+
+pub returns-in-Err-make_database-clause-ends : goal.returns-in-Err-make_database-clause-ends
+returns-in-Err-make_database-clause-ends g c =
+    let words = map string_bytes c.args.words.now in
+    let command : command_of words ≡ Some Init =
+    let read = c.in-Ok-Some-Init.ensures.command in let some = c.in-Ok-Some-Init.field-0-is in let init = c.in-Ok-Some-Init.field-0-0-is in cc in
+    let making = c.in-Err-make_database.ensures.making in
+    let fault = c.in-Err-make_database.fault in
+    let outside : Outside = record {
+      texts = g.L.Scripts.texts c.args.scripts.now;
+      asked_before = g.L.Scripts.asked c.args.scripts.now;
+      asked = g.L.Scripts.asked c.args.scripts.now;
+      script_faults_before = g.L.Scripts.faults c.args.scripts.now;
+      script_faults = g.L.Scripts.faults c.args.scripts.now;
+      tells = g.D.Disk.tells_content;
+      disk_before = g.D.Disk.told c.args.disk.now;
+      disk = g.D.Disk.told c.make_database.new.disk;
+    } in
+    or_memory fault (EndsBy outside words (command_of words) (Err fault))
+    (subst (λ (command : Option Command). EndsBy outside words command (Err fault)) (sym command) (record {
+      making = making.0;
+      may_make = making.1;
+      is = subst (λ (r : Result ⊤ Fault). EndsMade outside r (Err fault)) making.2 refl;
+    }))
+
+pub returns-in-Ok-clause-asks : goal.returns-in-Ok-clause-asks
+returns-in-Ok-clause-asks g c = asks_none (names_called (map string_bytes c.args.words.now)) (g.L.Scripts.asked c.args.scripts.now)
+
+pub returns-in-Err-make_database-clause-asks : goal.returns-in-Err-make_database-clause-asks
+returns-in-Err-make_database-clause-asks g c = asks_none (names_called (map string_bytes c.args.words.now)) (g.L.Scripts.asked c.args.scripts.now)
+
+pub returns-in-Ok-None-clause-ends : goal.returns-in-Ok-None-clause-ends
+returns-in-Ok-None-clause-ends g c =
+    let none : command_of (map string_bytes c.args.words.now) ≡ None = let read = c.in-Ok-None.ensures.command in let is = c.in-Ok-None.field-0-is in cc in
+    rw none refl
+
+pub returns-in-Ok-None-clause-asks : goal.returns-in-Ok-None-clause-asks
+returns-in-Ok-None-clause-asks g c = asks_none (names_called (map string_bytes c.args.words.now)) (g.L.Scripts.asked c.args.scripts.now)
+
+pub returns-in-Ok-None-clause-untouched : goal.returns-in-Ok-None-clause-untouched
+returns-in-Ok-None-clause-untouched g c = record { untouched = λ other. untouched_here (g.D.Disk.told c.args.disk.now); uncalled = λ early. refl }
+
+pub returns-in-Err-clause-asks : goal.returns-in-Err-clause-asks
+returns-in-Err-clause-asks g c = asks_none (names_called (map string_bytes c.args.words.now)) (g.L.Scripts.asked c.args.scripts.now)
+
+pub returns-in-Err-clause-untouched : goal.returns-in-Err-clause-untouched
+returns-in-Err-clause-untouched g c = record { untouched = λ other. untouched_here (g.D.Disk.told c.args.disk.now); uncalled = λ early. refl }
+
+pub returns-in-Err-clause-init : goal.returns-in-Err-clause-init
+returns-in-Err-clause-init g c is = first_byte_here (g.D.Disk.told c.args.disk.now)

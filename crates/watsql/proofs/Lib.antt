@@ -1,5 +1,0 @@
-pub mod SinkLemmas
-pub mod SessionLemmas
-pub mod CalledLemmas
-pub mod EndingLemmas
-pub mod UntouchedLemmas

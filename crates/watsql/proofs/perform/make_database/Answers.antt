@@ -1,4 +1,0 @@
-use Rattle.watsql.proofs.perform.make_database.Goals as goal
-
-pub returns-in-Ok-clause-made : goal.returns-in-Ok-clause-made
-returns-in-Ok-clause-made g c = record { content = c.in-Ok.ensures.made; kept = c.in-Ok.ensures.kept }
