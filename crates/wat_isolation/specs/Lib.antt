@@ -1,0 +1,12 @@
+pub mod World
+pub mod Rows
+pub mod Logs
+pub mod Machine
+pub mod Kept
+pub mod Statements
+pub mod Vacant
+pub mod Rollback
+pub mod Small
+pub mod Sql
+pub mod Naming
+pub mod Cases
