@@ -1,7 +1,6 @@
 pub mod Acts
 pub mod Bytes
 pub mod Disk
-pub mod FileNames
 pub mod Kept
 pub mod LeftProofs
 pub mod Memory

@@ -3,13 +3,11 @@
 
 mod bytes;
 mod disk;
-mod file_disk;
 mod memory;
 mod replay;
 mod synced;
 
 pub use disk::{Disk, DiskError, DiskFault, FileId};
-pub use file_disk::FileDisk;
 pub use memory::{Deed, Entry, MemoryDisk};
 pub use replay::Pick;
 pub use synced::write_synced;
