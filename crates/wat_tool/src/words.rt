@@ -1,4 +1,5 @@
-ghost use Rattle.std.specs.Prelude.{◌≡◌, ◌≢◌, IfErr, IsOk, IsOkUnless};
+ghost use Rattle.std.specs.Prelude.{◌≡◌, ◌≢◌, length, drop, IfErr, IfOk, IsOk, IsOkUnless};
+ghost use Rattle.std.specs.Vec.Iter.{into_iter_items, into_iter_len};
 ghost use Rattle.std.specs.IoError.{error_kind};
 ghost use Rattle.std.specs.Process.{exit_status};
 
@@ -10,6 +11,8 @@ use wat_begin::Fault;
 
 /// The words after the program's name. Where an argument is no UTF-8, the words are no command.
 pub fn words_of(alloc: Global, arguments: io::Result<Args>) -> Result<Vec<String>, Fault>
+    // They are all arguments but the first.
+    ensures words { IfOk arguments (λ all. into_iter_len all ≡ length (into_iter_items all) → IfOk result (λ words. words.items ≡ drop 1 (into_iter_items all))) }
     ensures memory { IsOk arguments → IsOkUnless result Fault.Memory }
     ensures no_text { IfErr arguments (λ error. error_kind error ≢ ErrorKind.OutOfMemory → result ≡ Err Fault.Usage) }
     ensures no_memory { IfErr arguments (λ error. error_kind error ≡ ErrorKind.OutOfMemory → result ≡ Err Fault.Memory) }
