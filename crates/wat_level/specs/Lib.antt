@@ -1,0 +1,4 @@
+pub mod Change
+pub mod Placed
+pub mod Visit
+pub mod Wanted
