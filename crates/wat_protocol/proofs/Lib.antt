@@ -1,0 +1,4 @@
+pub mod LockLemmas
+pub mod MoveLemmas
+pub mod VisitLemmas
+pub mod HeldLemmas
