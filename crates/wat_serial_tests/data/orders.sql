@@ -1,0 +1,11 @@
+CREATE TABLE customer (id INTEGER PRIMARY KEY, name VARCHAR(40) NOT NULL);
+CREATE TABLE n (id INTEGER PRIMARY KEY, cust INTEGER NOT NULL, amount INTEGER NOT NULL);
+CREATE INDEX by_cust ON n (cust);
+INSERT INTO customer VALUES (1, 'Ada'); INSERT INTO customer VALUES (2, 'Bo');
+INSERT INTO n VALUES (10, 1, 250); INSERT INTO n VALUES (11, 2, 40); INSERT INTO n VALUES (12, 1, 50);
+COMMIT;
+SELECT c.name, COUNT(*), SUM(o.amount) FROM customer c, n o WHERE o.cust = c.id GROUP BY c.name ORDER BY 3 DESC;
+UPDATE n SET amount = amount / 0 WHERE cust = 3;
+UPDATE n SET cust = 2 WHERE id = 12;
+COMMIT;
+DROP TABLE customer;
