@@ -1,0 +1,4 @@
+pub mod Asked
+pub mod Goes
+pub mod Listed
+pub mod Machine

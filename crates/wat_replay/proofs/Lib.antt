@@ -1,0 +1,4 @@
+pub mod Moves
+pub mod Sliding
+pub mod Replaying
+pub mod Committing
