@@ -1,0 +1,4 @@
+pub mod Conjuncts
+pub mod Limits
+pub mod Outside
+pub mod Usable

@@ -1,0 +1,4 @@
+pub mod Cuts
+pub mod KeySetLemmas
+pub mod SearchLemmas
+pub mod SortedLemmas

@@ -1,0 +1,4 @@
+pub mod Empty
+pub mod EndLemmas
+pub mod Exact
+pub mod TakenLemmas

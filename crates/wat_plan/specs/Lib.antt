@@ -1,0 +1,4 @@
+pub mod Choice
+pub mod Plans
+pub mod Private
+pub mod Scanned
