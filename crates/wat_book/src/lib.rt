@@ -1,0 +1,6 @@
+//! Pages and whose they are. Definitions and laws alone.
+#![tactic(auto)]
+
+mod laws;
+
+pub use laws::{chain_law, frame_law, step_laws};

@@ -1,0 +1,4 @@
+pub mod Header
+pub mod Held
+pub mod Pages
+pub mod Within

@@ -1,0 +1,5 @@
+pub mod Head
+pub mod Images
+pub mod Opening
+pub mod Restored
+pub mod Safe
