@@ -1,3 +1,4 @@
+pub mod Again
 pub mod ColumnLemmas
 pub mod Firsts
 pub mod PlaceLemmas

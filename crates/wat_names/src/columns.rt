@@ -11,7 +11,7 @@ use wat_ast::{
     Expr, InsertSource, Name, Names, OrderBy, OrderItem, Query, SelectItems, SetItem, Statement,
 };
 use wat_list::{Copied, Items, NoMemory};
-use wat_schema::{Refusal, Schema};
+use wat_schema::{NameSet, Refusal, Schema};
 use wat_scope::{Found, Scope, Visible, column_in, find, query_scope, table_scope};
 use wat_value::TableDef;
 use wat_walk::Spine;
@@ -142,11 +142,11 @@ fn has_visible(scope: &[Visible], name: &Name) -> bool
 fn named_again(alloc: Global, scope: &Scope) -> Result<Option<Refusal>, NoMemory>
     ensures { IfOk result (λ refusal. refusal ≡ first (named_again [] scope.now)) }
 {
-    let sources = scope.as_slice();
-    for i in 0..sources.len() {
-        let name = &sources[i].name;
-        if has_visible(&sources[..i], name) {
-            return Ok(Some(ambiguous(alloc, name)?));
+    let mut before = NameSet::new(alloc);
+    for source in scope.as_slice() {
+        let fresh = before.add(source.name.as_str())?;
+        if !fresh {
+            return Ok(Some(ambiguous(alloc, &source.name)?));
         }
     }
     Ok(None)

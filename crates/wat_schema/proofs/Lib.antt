@@ -8,6 +8,7 @@ pub mod Keeping
 pub mod Keyed
 pub mod LookUps
 pub mod Made
+pub mod Once
 pub mod OneTable
 pub mod Order
 pub mod Owning

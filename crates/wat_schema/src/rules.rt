@@ -1,5 +1,5 @@
 //! The rules that a table's and an index's definition keep.
-ghost use Rattle.std.specs.Prelude.{◌≡◌, ◌+◌, ◌≤◌, nat_lt, [], ◌∷◌, false, is_some, length, map, position, slice_get, IfOk};
+ghost use Rattle.std.specs.Prelude.{◌≡◌, ◌+◌, ◌≤◌, ◌==◌, nat_lt, if◌then◌else◌, [], ◌∷◌, false, is_some, length, map, position, slice_get, None, Some, IfOk};
 ghost use Rattle.std.specs.List.{list_any};
 ghost use Rattle.std.specs.Str.{bytes_eq};
 ghost use Rattle.wat_schema.specs.Catalog.{repeats};
@@ -7,6 +7,8 @@ ghost use Rattle.wat_value.specs.Widths.{width, width_at, width_of, widths};
 ghost use Rattle.wat_schema.specs.Definitions.{bad_definition, is_bad_key, is_bad_length, is_definition, lacks_column, may_be_null, number_named, same_name, takes_null};
 ghost use Rattle.wat_schema.specs.Making.{in_table_order};
 
+use crate::name_set::NameSet;
+use indexmap::IndexSet;
 use std::alloc::Global;
 use wat_list::{Items, NoMemory};
 use wat_value::{Column, IndexDef, Kind, Name, TableDef};
@@ -130,29 +132,64 @@ fn has_bad_length(columns: &[Column]) -> bool
     columns.iter().any(|column| is_bad_length(column.kind))
 }
 
-fn position_named(columns: &[Column], name: &str) -> Option<usize>
+/// The names of the columns in their order, or None where two columns have one name.
+fn names_of(alloc: Global, columns: &[Column]) -> Result<Option<NameSet>, NoMemory>
+    ensures { IfOk result (λ names. names ≡ (if repeats same_name columns.now then None else Some (map (λ column. column.name) columns.now))) }
+{
+    let mut names = NameSet::new(alloc);
+    for column in columns {
+        let fresh = names.add(column.name.as_str())?;
+        if !fresh {
+            return Ok(None);
+        }
+    }
+    Ok(Some(names))
+}
+
+/// The place of the first column with the name. `called` has the names of the columns.
+fn position_named(columns: &[Column], called: &NameSet, name: &str) -> Option<usize>
+    requires { called.now ≡ map (λ column. column.name) columns.now }
     ensures { result ≡ position (λ column. bytes_eq name.now column.name) columns.now }
 {
-    columns
-        .iter()
-        .position(|column| name == column.name.as_str())
+    called.position(name)
 }
 
 /// The number of the first column with the name, or the number of columns where none has it.
-fn number_named(columns: &[Column], name: &str) -> usize
+fn number_named(columns: &[Column], called: &NameSet, name: &str) -> usize
+    requires { called.now ≡ map (λ column. column.name) columns.now }
     ensures { result ≡ number_named columns.now name.now }
 {
-    position_named(columns, name).unwrap_or(columns.len())
+    position_named(columns, called, name).unwrap_or(columns.len())
 }
 
-fn numbers_named(alloc: Global, columns: &[Column], names: &[Name]) -> Result<Vec<usize>, NoMemory>
+fn numbers_named(
+    alloc: Global,
+    columns: &[Column],
+    called: &NameSet,
+    names: &[Name],
+) -> Result<Vec<usize>, NoMemory>
+    requires { called.now ≡ map (λ column. column.name) columns.now }
     ensures { IfOk result (λ numbers. numbers.items ≡ map (number_named columns.now) names.now) }
 {
     let mut numbers = Vec::new(alloc);
     for name in names {
-        numbers.push(number_named(columns, name.as_str()))?;
+        numbers.push(number_named(columns, called, name.as_str()))?;
     }
     Ok(numbers)
+}
+
+/// Whether a number comes twice, where there may be many.
+fn repeats_number(alloc: Global, numbers: &[usize]) -> Result<bool, NoMemory>
+    ensures { IfOk result (λ again. again ≡ repeats ◌==◌ numbers.now) }
+{
+    let mut before = IndexSet::new(alloc);
+    for number in numbers {
+        let fresh = before.insert(*number)?;
+        if !fresh {
+            return Ok(true);
+        }
+    }
+    Ok(false)
 }
 
 /// Like `width_at`, of wider numbers.
@@ -173,24 +210,21 @@ fn is_beyond(columns: &[Column], key: &[usize]) -> bool
     key.iter().any(|i| columns.len() <= *i)
 }
 
-fn is_bad_key(columns: &[Column], key: &[usize]) -> bool
-    ensures { result ≡ is_bad_key columns.now key.now }
+fn is_bad_key(alloc: Global, columns: &[Column], key: &[usize]) -> Result<bool, NoMemory>
+    ensures { IfOk result (λ bad. bad ≡ is_bad_key columns.now key.now) }
 {
-    repeats(key) || is_beyond(columns, key)
+    let again = repeats_number(alloc, key)?;
+    Ok(again || is_beyond(columns, key))
 }
 
 /// The smallest broken rule of a table with these columns, no two of one name, and with this one
-/// primary key, by the numbers of its columns.
-fn bad_key(is_full: bool, columns: &[Column], key: &[usize]) -> Option<u8>
-    requires { repeats same_name columns.now ≡ false }
+/// primary key, whose columns are there, each once.
+fn bad_size(is_full: bool, columns: &[Column], key: &[usize]) -> Option<u8>
+    requires distinct { repeats same_name columns.now ≡ false }
+    requires some { (length key.now == 0) ≡ false }
+    requires right { is_bad_key columns.now key.now ≡ false }
     ensures { result ≡ bad_definition is_full columns.now (key.now ∷ []) }
 {
-    if key.is_empty() {
-        return Some(2);
-    }
-    if is_bad_key(columns, key) {
-        return Some(3);
-    }
     if columns.len() > 64 {
         return Some(4);
     }
@@ -209,6 +243,43 @@ fn bad_key(is_full: bool, columns: &[Column], key: &[usize]) -> Option<u8>
     if is_full { Some(8) } else { None }
 }
 
+/// The smallest broken rule of a table with these columns, no two of one name, and with this one
+/// primary key, by the numbers of its columns.
+fn bad_key(
+    alloc: Global,
+    is_full: bool,
+    columns: &[Column],
+    key: &[usize],
+) -> Result<Option<u8>, NoMemory>
+    requires { repeats same_name columns.now ≡ false }
+    ensures { IfOk result (λ rule. rule ≡ bad_definition is_full columns.now (key.now ∷ [])) }
+{
+    if key.is_empty() {
+        return Ok(Some(2));
+    }
+    if is_bad_key(alloc, columns, key)? {
+        return Ok(Some(3));
+    }
+    Ok(bad_size(is_full, columns, key))
+}
+
+/// Like `bad_key`, of a key by the names of its columns. `called` has those of all columns.
+fn bad_named_key(
+    alloc: Global,
+    is_full: bool,
+    columns: &[Column],
+    called: &NameSet,
+    key: &[Name],
+) -> Result<Option<u8>, NoMemory>
+    requires distinct { repeats same_name columns.now ≡ false }
+    requires called { called.now ≡ map (λ column. column.name) columns.now }
+    ensures { IfOk result (λ rule. rule ≡ bad_definition is_full columns.now (map (number_named columns.now) key.now ∷ [])) }
+{
+    let numbers = numbers_named(alloc, columns, called, key)?;
+    let rule = bad_key(alloc, is_full, columns, numbers.as_slice())?;
+    Ok(rule)
+}
+
 /// The smallest broken rule of a table with these columns and these primary keys. `is_full` says
 /// that no more tables may be made.
 pub fn bad_table(
@@ -219,13 +290,13 @@ pub fn bad_table(
 ) -> Result<Option<u8>, NoMemory>
     ensures { IfOk result (λ rule. rule ≡ bad_definition is_full columns.now (map (map (number_named columns.now)) keys.now)) }
 {
-    if repeats_name(columns) {
+    let Some(called) = names_of(alloc, columns)? else {
         return Ok(Some(1));
-    }
+    };
     match keys {
         [key] => {
-            let key = numbers_named(alloc, columns, key.as_slice())?;
-            Ok(bad_key(is_full, columns, key.as_slice()))
+            let rule = bad_named_key(alloc, is_full, columns, &called, key.as_slice())?;
+            Ok(rule)
         }
         _ => Ok(Some(2)),
     }
@@ -248,6 +319,12 @@ pub fn are_bad_columns(columns: &[Column], numbers: &[u8]) -> bool
 fn breaks_a_rule(is_full: bool, columns: &[Column], key: &[u8]) -> bool
     ensures { result ≡ is_some (bad_definition is_full columns.now (key.now ∷ [])) }
 {
+    if columns.len() > 64 {
+        return true;
+    }
+    if key.len() > 16 {
+        return true;
+    }
     if repeats_name(columns) {
         return true;
     }
@@ -255,12 +332,6 @@ fn breaks_a_rule(is_full: bool, columns: &[Column], key: &[u8]) -> bool
         return true;
     }
     if are_bad_columns(columns, key) {
-        return true;
-    }
-    if columns.len() > 64 {
-        return true;
-    }
-    if key.len() > 16 {
         return true;
     }
     if has_bad_length(columns) {

@@ -1,4 +1,4 @@
-ghost use Rattle.std.specs.Prelude.{◌≡◌, ◌==◌, ◌||◌, not, [], ◌++◌, map, length, unwrap_or, option_to_list, IfOk, OnOk};
+ghost use Rattle.std.specs.Prelude.{◌≡◌, ℕ, ◌==◌, ◌||◌, not, [], ◌++◌, map, length, unwrap_or, option_to_list, IfOk, OnOk};
 ghost use Rattle.std.specs.List.{filter_map, flat_map, list_any};
 ghost use Rattle.std.specs.Str.{bytes_eq};
 ghost use Rattle.wat_walk.specs.Parts.{is_aggregated};
@@ -9,10 +9,11 @@ ghost use Rattle.wat_typing.specs.Rules.{types_in, type_named, typings, value_ru
 
 use crate::bare::{Spot, add_bare_items, add_bare_list, add_bare_option, add_bare_orders};
 use crate::typing::{type_at, typing_of, typings};
+use indexmap::IndexSet;
 use std::alloc::Global;
 use wat_ast::{Expr, InsertSource, Name, Names, OrderBy, OrderItem, Query, SelectItems, SetItem};
 use wat_list::{Copied, Items, NoMemory};
-use wat_schema::Schema;
+use wat_schema::{NameSet, Schema};
 use wat_scope::{Scope, column_in, columns_of, query_scope, table_scope};
 use wat_types::{ExprType, Typing, any_aggregated, breaks, lesser, smallest};
 
@@ -225,22 +226,29 @@ fn is_grouped(query: &Query, items: &[Typing]) -> bool
     0 < query.group.len() || query.having.is_some() || any_aggregated(items)
 }
 
-fn spot_eq(a: Spot, b: Spot) -> bool
-    ensures { result ≡ spot_eq a b }
+/// The columns, in a set, where one of many is looked up about as fast as one of few.
+fn spot_set(alloc: Global, columns: &[Spot]) -> Result<IndexSet<Spot>, NoMemory>
+    ensures { IfOk result (λ set. (column : ℕ × ℕ) → list_any (spot_eq column) set.keys ≡ list_any (spot_eq column) columns.now) }
 {
-    a.0 == b.0 && a.1 == b.1
+    let mut set = IndexSet::new(alloc);
+    for column in columns {
+        let spot = *column;
+        set.insert(spot)?;
+    }
+    Ok(set)
 }
 
-fn is_key(keys: &[Spot], column: Spot) -> bool
-    ensures { result ≡ list_any (spot_eq column) keys.now }
+fn has_other_than(keys: &IndexSet<Spot>, columns: &[Spot]) -> bool
+    ensures { result ≡ has_other keys.now.keys columns.now }
 {
-    keys.iter().any(|key| spot_eq(column, *key))
+    columns.iter().any(|column| !keys.contains(column))
 }
 
-fn has_other(keys: &[Spot], columns: &[Spot]) -> bool
-    ensures { result ≡ has_other keys.now columns.now }
+fn has_other(alloc: Global, keys: &[Spot], columns: &[Spot]) -> Result<bool, NoMemory>
+    ensures { IfOk result (λ other. other ≡ has_other keys.now columns.now) }
 {
-    columns.iter().any(|column| !is_key(keys, *column))
+    let keys = spot_set(alloc, keys)?;
+    Ok(has_other_than(&keys, columns))
 }
 
 fn shown_columns(alloc: Global, query: &Query) -> Result<Items<Spot>, NoMemory>
@@ -267,7 +275,7 @@ fn breaks_grouping(alloc: Global, query: &Query, items: &[Typing]) -> Result<boo
     let mut keys = Items::new(alloc);
     add_bare_list(alloc, query.group.as_slice(), &mut keys)?;
     let columns = shown_columns(alloc, query)?;
-    Ok(has_other(keys.as_slice(), columns.as_slice()))
+    has_other(alloc, keys.as_slice(), columns.as_slice())
 }
 
 fn scope_types(alloc: Global, schema: &Schema, scope: &Scope) -> Result<Types, NoMemory>
@@ -383,29 +391,25 @@ fn misfits(columns: &[ExprType], values: &[ExprType]) -> bool
         .any(|(column, value)| !goes_into(*value, *column))
 }
 
-fn has_name(names: &[Name], name: &Name) -> bool
-    ensures { result ≡ list_any (λ other. bytes_eq other name.now) names.now }
+fn repeats(alloc: Global, names: &[Name]) -> Result<bool, NoMemory>
+    ensures { IfOk result (λ again. again ≡ repeats bytes_eq names.now) }
 {
-    names.iter().any(|other| other.as_str() == name.as_str())
-}
-
-fn repeats(names: &[Name]) -> bool
-    ensures { result ≡ repeats bytes_eq names.now }
-{
-    for i in 0..names.len() {
-        if has_name(&names[i + 1..], &names[i]) {
-            return true;
+    let mut before = NameSet::new(alloc);
+    for name in names {
+        let fresh = before.add(name.as_str())?;
+        if !fresh {
+            return Ok(true);
         }
     }
-    false
+    Ok(false)
 }
 
-fn repeats_named(columns: &Option<Names>) -> bool
-    ensures { result ≡ repeats bytes_eq (unwrap_or columns.now []) }
+fn repeats_named(alloc: Global, columns: &Option<Names>) -> Result<bool, NoMemory>
+    ensures { IfOk result (λ again. again ≡ repeats bytes_eq (unwrap_or columns.now [])) }
 {
     match columns {
-        None => false,
-        Some(names) => repeats(names.as_slice()),
+        None => Ok(false),
+        Some(names) => repeats(alloc, names.as_slice()),
     }
 }
 
@@ -424,10 +428,16 @@ fn given_types(
 }
 
 // Whether INSERT names a column twice, or the number of values isn't that of the columns.
-fn is_miscounted(columns: &Option<Names>, given: &[ExprType], values: &[ExprType]) -> bool
-    ensures { result ≡ (repeats bytes_eq (unwrap_or columns.now []) || not (length given.now == length values.now)) }
+fn is_miscounted(
+    alloc: Global,
+    columns: &Option<Names>,
+    given: &[ExprType],
+    values: &[ExprType],
+) -> Result<bool, NoMemory>
+    ensures { IfOk result (λ bad. bad ≡ (repeats bytes_eq (unwrap_or columns.now []) || not (length given.now == length values.now))) }
 {
-    repeats_named(columns) || given.len() != values.len()
+    let again = repeats_named(alloc, columns)?;
+    Ok(again || given.len() != values.len())
 }
 
 #[tactic(auto, unfolding(crate::specs::Rules::insert_rule))]
@@ -441,7 +451,8 @@ fn insert_rule(
     ensures { IfOk result (λ rule. rule ≡ insert_rule schema.now table.now columns.now values.now) }
 {
     let given = given_types(alloc, schema, schema.table(table.as_str()), columns)?;
-    let counts = breaks(9, is_miscounted(columns, given.as_slice(), values));
+    let miscounted = is_miscounted(alloc, columns, given.as_slice(), values)?;
+    let counts = breaks(9, miscounted);
     let types = breaks(11, misfits(given.as_slice(), values));
     Ok(lesser(counts, types))
 }
@@ -537,11 +548,12 @@ pub fn update_rule(
         names.as_slice(),
     )?;
     let types = kinds(alloc, values.as_slice())?;
+    let again = repeats(alloc, names.as_slice())?;
     Ok(smallest(&[
         values_rule(values.as_slice()),
         tests_rule(tests.as_slice()),
         breaks(6, either_aggregated(values.as_slice(), tests.as_slice())),
-        breaks(10, repeats(names.as_slice())),
+        breaks(10, again),
         breaks(11, misfits(columns.as_slice(), types.as_slice())),
     ]))
 }

@@ -1,7 +1,11 @@
-use Rattle.std.proofs.Common.{◌≡◌, [], take, drop}
+use Rattle.std.proofs.Common.{◌≡◌, [], map, take, drop}
+use Rattle.wat_scope.specs.declared.scope.Visible.{Visible}
 use Rattle.wat_names.specs.Refusals.{first}
 use Rattle.wat_names.specs.Columns.{named_again}
 use Rattle.wat_names.proofs.columns.named_again.Given as goal
 
-abbrev pub invariant-loop-i : goal.invariant-loop-i
-invariant-loop-i l = first (named_again (take l.i l.sources) (drop l.i l.sources)) ≡ first (named_again [] l.fn.scope)
+abbrev pub invariant-loop-source : goal.invariant-loop-source
+invariant-loop-source l = record {
+  called : l.before ≡ map (λ (source : Visible). source.name) (take l.source-index l.source-items);
+  rest : first (named_again (take l.source-index l.source-items) (drop l.source-index l.source-items)) ≡ first (named_again [] l.fn.scope);
+}
