@@ -1,3 +1,4 @@
 pub mod Inserted
 pub mod Meanings
 pub mod Running
+pub mod PlainLemmas

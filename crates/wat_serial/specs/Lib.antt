@@ -1,3 +1,4 @@
 pub mod Changing
 pub mod Duplicates
 pub mod Script
+pub mod Plain

@@ -5,6 +5,7 @@ mod changing;
 mod computing;
 mod duplicates;
 mod laws;
+mod plain;
 mod script;
 
 pub use computing::meaning;

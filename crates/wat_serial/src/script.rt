@@ -1,12 +1,17 @@
-ghost use Rattle.std.specs.Prelude.{◌≡◌, ◌≤◌, ◌+◌, length, Err, Ok, Some, IsSome, IfErr, IfOk, OnOk, true};
+ghost use Rattle.std.specs.Prelude.{◌≡◌, ◌≤◌, ◌+◌, length, unwrap_or, Err, Ok, Some, IsSome, IfErr, IfOk, OnOk, true};
 ghost use Rattle.std.specs.List.{Contains};
-ghost use Rattle.wat_schema.specs.Tables.{apply_all};
+ghost use Rattle.std.specs.Option.{option_map};
+ghost use Rattle.wat_value.specs.declared.change.Change.TheVariants.{Insert};
+ghost use Rattle.wat_schema.specs.declared.refusal.Refusal.TheVariants.{Duplicate};
+ghost use Rattle.wat_schema.specs.Tables.{apply_all, apply_change, table_at};
 ghost use Rattle.wat_names.specs.Refusals.{or_refused};
 ghost use Rattle.wat_meaning.specs.Meaning.{has_meaning, meaning};
+ghost use Rattle.wat_tables.specs.Acting.{is_fitting, standing_key};
 ghost use Rattle.wat_parse.specs.Statements.{statements_of};
 ghost use Rattle.wat_serial.specs.Script.{IsRefusedOrMemory, IsUnlessMemory, after_meaning, after_span, after_statement, is_commit, run, run_from};
 
 use crate::computing::meaning;
+use crate::plain::{PlainRow, plain_row};
 use std::alloc::{AllocError, Global};
 use wat_ast::Statement;
 use wat_lex::MAX_TEXT;
@@ -57,8 +62,21 @@ fn make_all(tables: &mut Tables, acts: &[Act]) -> Result<(), NoMemory>
     Ok(())
 }
 
+// Inserts the row, or answers that its key stands.
+fn make_plain(plain: PlainRow, tables: &mut Tables) -> Result<Option<Refusal>, NoMemory>
+    requires { is_fitting (table_at tables.old plain.table) plain.row ≡ true }
+    ensures refusal { IfOk result (λ refusal. refusal ≡ option_map Duplicate (standing_key (table_at tables.old plain.table) plain.row)) }
+    ensures after { OnOk result (tables.new ≡ unwrap_or (apply_change (Insert plain.table plain.row) tables.old) tables.old) }
+{
+    let PlainRow { table, row } = plain;
+    match tables.insert(table, row)? {
+        Some(key) => Ok(Some(Refusal::Duplicate { key })),
+        None => Ok(None),
+    }
+}
+
 // Makes the acts of a statement that has a meaning, or answers why it is refused.
-fn make(
+fn make_meant(
     alloc: Global,
     statement: &Statement,
     tables: &mut Tables,
@@ -74,6 +92,22 @@ fn make(
     }
     make_all(tables, acts.as_slice())?;
     Ok(None)
+}
+
+// The same; a row that needs no check is inserted at once.
+fn make(
+    alloc: Global,
+    statement: &Statement,
+    tables: &mut Tables,
+) -> Result<Option<Refusal>, NoMemory>
+    requires { has_meaning statement.now ≡ true }
+    ensures { IfOk result (λ refusal. after_meaning tables.old (meaning tables.old statement.now) ≡ or_refused tables.new refusal) }
+{
+    let found = plain_row(alloc, statement, tables)?;
+    match found {
+        Some(plain) => make_plain(plain, tables),
+        None => make_meant(alloc, statement, tables),
+    }
 }
 
 // Makes what a statement whose first token is at this place means, or answers why it is refused.

@@ -12,12 +12,13 @@ use Rattle.wat_value.specs.declared.change.Change.TheVariants.{Insert, Update, D
 use Rattle.wat_value.specs.declared.change.SchemaChange.{SchemaChange}
 use Rattle.wat_value.specs.declared.change.SchemaChange.TheVariants.{CreateTable, DropTable, CreateIndex}
 use Rattle.wat_value.specs.Changes.{changed_table}
+use Rattle.wat_value.specs.Fits.{fits}
 use Rattle.wat_value.specs.declared.definition.TableDef.{TableDef}
 use Rattle.wat_value.specs.declared.definition.IndexDef.{IndexDef}
 use Rattle.wat_schema.specs.Catalog.{Catalog, Listing, ascend, in_order, has_index_named, listing_at, listing_named, numbers_of, repeats}
 use Rattle.wat_schema.specs.Stored.{IsCatalog, are_indexes, defs_of, indexes_of, is_index, is_whole}
 use Rattle.wat_schema.specs.Definitions.{allows, allows_index_of, altered, is_definition, is_full}
-use Rattle.wat_schema.specs.Tables.{Table, Tables, IsTables, after_alter, apply_change, catalog_of, is_table, listing_of, on_table, table_at, with_table}
+use Rattle.wat_schema.specs.Tables.{Row, Table, Tables, IsTables, after_alter, apply_change, catalog_of, is_table, listing_of, on_table, table_at, with_table}
 use Rattle.wat_schema.specs.Tables as tables
 use Rattle.wat_schema.proofs.Changing.{schema_stays}
 use Rattle.wat_schema.proofs.Database.{acts_hold, in_their_order}
@@ -26,7 +27,7 @@ use Rattle.wat_schema.proofs.Found.{listed_table}
 use Rattle.wat_schema.proofs.LookUps.{at_number, find-alike, map_id}
 use Rattle.wat_schema.proofs.TableLaws.{catalog-after}
 use Rattle.wat_meaning.proofs.Applying.{named}
-use Rattle.wat_tables.specs.Acting.{empty_table, empty_tables, table_after}
+use Rattle.wat_tables.specs.Acting.{empty_table, empty_tables, is_fitting, standing_key, table_after}
 use Rattle.wat_tables.specs.Held.{IsOfSchema}
 
 -- ---- numbers
@@ -343,21 +344,33 @@ module _ (t self : Tables) (schema : Catalog) (numbers : List ℕ) (change : Cha
   stays : new ≡ z → record t { tables = set t.tables i new } ≡ t
   stays h = ap (λ y. record t { tables = set t.tables i y }) (h ∙ same) ∙ ap (λ xs. record t { tables = xs }) (set_back t.tables i s.item s.at)
 
-  pub kept_either : {E : Type 0} (r : Result Bool E) → OnOk r (new ≡ unwrap_or (table_after change z) z) → OnErr r (new ≡ z) → IsOfSchema (record t { tables = set t.tables i new }) schema numbers
-  kept_either (Ok b) h k = subst (λ u. IsOfSchema u schema numbers) (sym (made h)) (keeps_change t schema numbers change is)
+  pub kept_either : {A E : Type 0} (r : Result A E) → OnOk r (new ≡ unwrap_or (table_after change z) z) → OnErr r (new ≡ z) → IsOfSchema (record t { tables = set t.tables i new }) schema numbers
+  kept_either (Ok a) h k = subst (λ u. IsOfSchema u schema numbers) (sym (made h)) (keeps_change t schema numbers change is)
   kept_either (Err e) h k = subst (λ u. IsOfSchema u schema numbers) (sym (stays k)) is
 
-  pub after_either : {E : Type 0} (r : Result Bool E) → OnOk r (new ≡ unwrap_or (table_after change z) z) → OnOk r (record t { tables = set t.tables i new } ≡ unwrap_or (apply_change change self) self)
-  after_either (Ok b) h = made h ∙ ap (λ u. unwrap_or (apply_change change u) u) view
+  pub after_either : {A E : Type 0} (r : Result A E) → OnOk r (new ≡ unwrap_or (table_after change z) z) → OnOk r (record t { tables = set t.tables i new } ≡ unwrap_or (apply_change change self) self)
+  after_either (Ok a) h = made h ∙ ap (λ u. unwrap_or (apply_change change u) u) view
   after_either (Err e) h = h
 
   pub applied_either : {E : Type 0} (r : Result Bool E) → IfOk r (λ b. b ≡ is_some (table_after change z)) → IfOk r (λ b. b ≡ is_some (apply_change change self))
   applied_either (Ok b) h = h ∙ ap (λ y. is_some (table_after change y)) same ∙ change_if t change s.item s.found ∙ ap (λ u. is_some (apply_change change u)) view
   applied_either (Err e) h = h
 
+  pub stood_either : {E : Type 0} (row : Row) (r : Result (Option Row) E) → IfOk r (λ stood. stood ≡ standing_key (Some z) row) → IfOk r (λ stood. stood ≡ standing_key (table_at self (changed_table change)) row)
+  stood_either row (Ok stood) h =
+      h ∙ ap (λ y. standing_key (Some y) row) same ∙ ap (λ o. standing_key o row) (sym s.found) ∙ ap (λ u. standing_key (table_at u (changed_table change)) row) view
+  stood_either row (Err e) h = h
+
+  pub fits_here : (row : Row) → is_fitting (table_at self (changed_table change)) row ≡ true → fits z.def row ≡ true
+  fits_here row h = ap (λ y. fits y.def row) same ∙ ap (λ o. is_fitting o row) (sym s.found) ∙ ap (λ u. is_fitting (table_at u (changed_table change)) row) view ∙ h
+
 pub none_here : (t self : Tables) (schema : Catalog) (numbers : List ℕ) (change : Change) → IsOfSchema t schema numbers → t ≡ self → position (nat_eq (changed_table change)) numbers ≡ None → apply_change change self ≡ None
 none_here t self schema numbers change is view gone =
     ap (apply_change change) (sym view) ∙ change_none t change (sym (found_at t schema numbers (changed_table change) None is (sym gone)))
+
+pub none_fits : (t self : Tables) (schema : Catalog) (numbers : List ℕ) (n : ℕ) (row : Row) → IsOfSchema t schema numbers → t ≡ self → position (nat_eq n) numbers ≡ None → is_fitting (table_at self n) row ≡ true → ⊥
+none_fits t self schema numbers n row is view gone fit =
+    let no : false ≡ true = ap (λ o. is_fitting o row) (found_at t schema numbers n None is (sym gone)) ∙ ap (λ u. is_fitting (table_at u n) row) view ∙ fit in cc
 
 -- ---- a table that doesn't stand
 

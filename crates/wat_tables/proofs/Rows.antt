@@ -1,25 +1,31 @@
 -- Rows in order, as the entries of a map under their keys.
-use Rattle.std.proofs.Common.{◌≡◌, Bool, true, false, not, cond, ◌&&◌, ◌||◌, if◌then◌else◌, List, [], ◌∷◌, ◌++◌, map, filter, Option, Some, None, is_some, unwrap_or, refl, sym, ap, ap₂, ◌∙◌, inl, inr}
+use Rattle.std.proofs.Common.{◌≡◌, Bool, true, false, not, cond, ◌&&◌, ◌||◌, if◌then◌else◌, List, [], ◌∷◌, ◌++◌, map, filter, Option, Some, None, Result, Ok, Err, IfOk, OnOk, OnErr, is_some, unwrap_or, refl, subst, sym, ap, ap₂, ◌∙◌, inl, inr}
 use Rattle.std.specs.declared.cmp.Ordering.{Ordering}
 use Rattle.std.specs.declared.cmp.Ordering.TheVariants.{Less, Equal, Greater}
 use Rattle.std.specs.Ordering.{is_lt, is_gt, is_eq, ordering_reverse}
 use Rattle.std.specs.List.{list_any, list_all}
-use Rattle.std.specs.Map.{lookup, remove_entry, values_of}
+use Rattle.std.specs.List.Sorted.{IsStrictlySortedBy}
+use Rattle.std.specs.Map.{keys_of, lookup, remove_entry, values_of}
 use Rattle.std.specs.BTreeMap.{insert_entry, is_at}
 use Rattle.std.specs.Option.{option_map, option_map_or}
 use Rattle.std.proofs.lemmas.Bool.{and_parts, and_from, cases_Bool}
+use Rattle.std.proofs.lemmas.Map.{lookup-none}
+use Rattle.std.proofs.lemmas.Map.Entries.{none_below_head}
+use Rattle.wat_value.specs.declared.change.Change.TheVariants.{Insert}
 use Rattle.wat_value.specs.declared.definition.TableDef.{TableDef}
 use Rattle.wat_value.specs.Fits.{fits, key_of}
 use Rattle.wat_value.specs.Order.{key_cmp}
-use Rattle.wat_value.specs.OrderLaws.{key_cmp_total, key_cmp_refl}
+use Rattle.wat_value.specs.OrderLaws.{key_cmp_level, key_cmp_total, key_cmp_refl}
 use Rattle.wat_list.specs.Rising.{rising}
 use Rattle.wat_schema.specs.Tables.{Row, Table, after_delete, after_insert, after_update, row_eq, by_key, has_key, has_row, is_table, with_row, row_with}
+use Rattle.wat_schema.proofs.OneTable.{one_keeps}
 use Rattle.wat_schema.proofs.RowOrder.{less_is}
 use Rattle.wat_schema.proofs.TableLaws.{itself, equal}
 use Rattle.wat_schema.proofs.Keyed.{at, at_stands, stands_at, at_first}
 use Rattle.wat_expr.specs.Evaluation.{Combination}
 use Rattle.wat_meaning.specs.Meaning.{alone, sole_row}
-use Rattle.wat_tables.specs.Held.{IsKeyed, under_key, rows_of}
+use Rattle.wat_tables.specs.Acting.{standing_key}
+use Rattle.wat_tables.specs.Held.{IsKeyed, is_there, key_there, put_in, rows_of, under_key}
 
 reversed : (o : Ordering) → is_eq (ordering_reverse o) ≡ is_eq o
 reversed Less = refl
@@ -28,6 +34,18 @@ reversed Greater = refl
 
 flip : (a b : Row) → is_eq (key_cmp a b) ≡ is_eq (key_cmp b a)
 flip a b = ap is_eq (key_cmp_total.antisymm a b) ∙ reversed (key_cmp b a)
+
+-- ---- what a look-up found, put back
+
+pub put_back : (key : Row) (rows : Combination) (es : List (Row × Combination)) → IsStrictlySortedBy key_cmp (keys_of es) → lookup (is_at (key_cmp key)) es ≡ Some rows → insert_entry key_cmp es key rows ≡ es
+unfolding IsStrictlySortedBy
+put_back key rows [] up found = absurd (let no : ◌≡◌ {A = Option Combination} None (Some rows) = found in cc)
+put_back key rows (e ∷ es) up found = by (put_back key rows es up.1) (key_cmp key e.0) refl
+  where
+    by : (lookup (is_at (key_cmp key)) es ≡ Some rows → insert_entry key_cmp es key rows ≡ es) → (o : Ordering) → key_cmp key e.0 ≡ o → insert_entry key_cmp (e ∷ es) key rows ≡ e ∷ es
+    by rest Less h = absurd (let no : ◌≡◌ {A = Option Combination} None (Some rows) = sym (lookup-none (is_at (key_cmp key)) (e ∷ es) (none_below_head key_cmp_total key e es up h)) ∙ found in cc)
+    by rest Equal h = let here : Some e.1 ≡ Some rows = rw h at found in let it : e.1 ≡ rows = cc in rw h (ap (λ r. (e.0, r) ∷ es) (sym it))
+    by rest Greater h = let later : lookup (is_at (key_cmp key)) es ≡ Some rows = rw h at found in rw h (ap (λ more. e ∷ more) (rest later))
 
 module _ (def : TableDef) where
   abbrev keyed : List Row → List (Row × Combination)
@@ -291,3 +309,69 @@ pub stands_in : (x : Table) (entries : List (Row × Combination)) (row key : Row
 stands_in x entries row key is k =
     ap₂ (λ kk es. option_map_or (λ found. row_eq row (sole_row found)) (lookup (is_at (key_cmp kk)) es) false) k is.keyed
     ∙ row_found x.def row x.rows (and_parts (list_all (fits x.def) x.rows) (rising (by_key x.def) x.rows) is.ok).1
+
+-- ---- what is left where a row is put into the map, unless its key is there
+
+module _ (x self : Table) (row : Row) (entries made : List (Row × Combination)) (key : Row) (rows : Combination) (is : IsKeyed x entries) (view : x ≡ self) (k : key ≡ key_of x.def row) (r : rows ≡ alone row)
+    (fit : fits self.def row ≡ true) where
+  fit_here : fits x.def row ≡ true
+  fit_here = ap (λ (t : Table). fits t.def row) view ∙ fit
+
+  there : is_there key entries ≡ has_key x (key_of x.def row)
+  there = ap₂ is_there k is.keyed ∙ key_found x.def (key_of x.def row) x.rows
+
+  -- the key stands: the map stays
+  had : has_key x (key_of x.def row) ≡ true → made ≡ put_in key rows entries → made ≡ entries
+  had h m = m ∙ ap (λ b. if b then entries else insert_entry key_cmp entries key rows) (there ∙ h)
+
+  nothing : has_key x (key_of x.def row) ≡ true → after_insert row x ≡ None
+  nothing h = rw (fit_here, h) refl
+
+  -- the key is free: the row comes in
+  abbrev more_rows : Table
+  more_rows = record x { rows = with_row x.def row x.rows }
+
+  new_here : has_key x (key_of x.def row) ≡ false → made ≡ put_in key rows entries → made ≡ map (under_key x.def) (with_row x.def row x.rows)
+  new_here h m =
+      after_inserting x row entries made key rows is h k r (m ∙ ap (λ b. if b then entries else insert_entry key_cmp entries key rows) (there ∙ h))
+
+  same_kept : made ≡ entries → IsKeyed (record x { rows = rows_of made }) made
+  same_kept m = subst (λ es. IsKeyed (record x { rows = rows_of es }) es) (sym m) (is_kept x entries is.keyed is.ok)
+
+  kept_if : (b : Bool) → has_key x (key_of x.def row) ≡ b → made ≡ put_in key rows entries → IsKeyed (record x { rows = rows_of made }) made
+  kept_if true h m = same_kept (had h m)
+  kept_if false h m = is_kept more_rows made (new_here h m) (one_keeps (Insert 0 row) x more_rows is.ok (inserts x row fit_here h))
+
+  left_if : (b : Bool) → has_key x (key_of x.def row) ≡ b → made ≡ put_in key rows entries → record x { rows = rows_of made } ≡ unwrap_or (after_insert row self) self
+  left_if true h m =
+      seen_as x made (had h m ∙ is.keyed) ∙ sym (ap (λ o. unwrap_or o x) (nothing h)) ∙ ap (λ t. unwrap_or (after_insert row t) t) view
+  left_if false h m = made_so x more_rows (after_insert row) (inserts x row fit_here h) made (new_here h m) self view
+
+  module _ {E : Type 0} where
+    pub put_keeps : (o : Result (Option Row) E) → OnOk o (made ≡ put_in key rows entries) → OnErr o (made ≡ entries) → IsKeyed (record x { rows = rows_of made }) made
+    put_keeps (Ok stood) m n = kept_if (has_key x (key_of x.def row)) refl m
+    put_keeps (Err e) m n = same_kept n
+
+    pub put_leaves : (o : Result (Option Row) E) → OnOk o (made ≡ put_in key rows entries) → OnOk o (record x { rows = rows_of made } ≡ unwrap_or (after_insert row self) self)
+    put_leaves (Ok stood) m = left_if (has_key x (key_of x.def row)) refl m
+    put_leaves (Err e) m = m
+
+    pub put_stood : (o : Result (Option Row) E) → IfOk o (λ stood. stood ≡ key_there key entries) → IfOk o (λ stood. stood ≡ standing_key (Some self) row)
+    put_stood (Ok stood) s = s ∙ ap₂ (λ b kk. if b then Some kk else None) there k ∙ ap (λ t. standing_key (Some t) row) view
+    put_stood (Err e) s = s
+
+-- ---- a key that is there, and what was found under it
+
+module _ (key : Row) (rows found : Combination) (es : List (Row × Combination)) (is : lookup (is_at (key_cmp key)) es ≡ Some found) where
+  here : is_there key es ≡ true
+  here = ap is_some is
+
+  pub stood_same : (k : Row) → key_cmp key k ≡ Equal → Some k ≡ key_there key es
+  stood_same k level = ap Some (sym (key_cmp_level key k level)) ∙ sym (ap (λ b. if b then Some key else None) here)
+
+  pub put_same : (made : List (Row × Combination)) → IsStrictlySortedBy key_cmp (keys_of es) → made ≡ insert_entry key_cmp es key found → made ≡ put_in key rows es
+  put_same made up m = m ∙ put_back key found es up is ∙ sym (ap (λ b. if b then es else insert_entry key_cmp es key rows) here)
+
+pub on_err : {A E : Type 0} (o : Result A E) {X : Type 0} → X → OnErr o X
+on_err (Ok a) x = tt
+on_err (Err e) x = x

@@ -1,14 +1,15 @@
-ghost use Rattle.std.specs.Prelude.{◌≡◌, ◌&&◌, [], map, is_some, unwrap_or, IfOk, OnOk, OnErr};
+ghost use Rattle.std.specs.Prelude.{◌≡◌, ◌&&◌, true, [], map, is_some, unwrap_or, Some, IfOk, OnOk, OnErr};
 ghost use Rattle.std.specs.Option.{option_copied};
-ghost use Rattle.wat_value.specs.Fits.{fits, key_of};
+ghost use Rattle.wat_value.specs.Fits.{fits, key_of, value_in};
 ghost use Rattle.wat_value.specs.Order.{key_eq};
 ghost use Rattle.wat_schema.specs.Tables.{after_delete, after_insert, after_update, has_key, has_row, row_eq, row_with};
 ghost use Rattle.wat_meaning.specs.Meaning.{alone, sole_row};
-ghost use Rattle.wat_tables.specs.Acting.{empty_table, table_after};
+ghost use Rattle.wat_tables.specs.Acting.{empty_table, standing_key, table_after};
+ghost use Rattle.wat_tables.specs.Held.{key_there, put_in};
 
 use std::alloc::Global;
 use std::collections::BTreeMap;
-use std::collections::btree_map::Values;
+use std::collections::btree_map::{Entry, Values};
 use std::marker::Model;
 use wat_list::{Copied, Items, NoMemory};
 use wat_value::{Change, Combination, IndexDefs, Key, Row, TableDef, Value, compare_rows, fits};
@@ -36,13 +37,40 @@ impl Model for StoredTable {
     ghost invariant = { λ t. IsKeyed (record { def = t.def; indexes = t.indexes; rows = rows_of t.rows.entries }) t.rows.entries };
 }
 
-fn alone(alloc: Global, row: &Row) -> Result<Combination, NoMemory>
+fn alone(alloc: Global, row: Row) -> Result<Combination, NoMemory>
+    ensures { IfOk result (λ rows. rows ≡ alone row) }
+{
+    let mut rows = Vec::with_capacity(alloc, 1)?;
+    rows.push(Some(row))?;
+    Ok(Items::from_vec(rows))
+}
+
+fn alone_copy(alloc: Global, row: &Row) -> Result<Combination, NoMemory>
     ensures { IfOk result (λ rows. rows ≡ alone row.now) }
 {
     let row = row.copy(alloc)?;
-    let mut rows = Items::new(alloc);
-    rows.push(Some(row))?;
-    Ok(rows)
+    alone(alloc, row)
+}
+
+fn value_in(alloc: Global, row: &[Value], column: u8) -> Result<Value, NoMemory>
+    ensures { IfOk result (λ value. value ≡ value_in row.now column) }
+{
+    match row.get(column as usize) {
+        Some(value) => value.copy(alloc),
+        None => Ok(Value::Null),
+    }
+}
+
+// The key of a row, in as much room as it takes.
+fn tight_key(alloc: Global, def: &TableDef, row: &[Value]) -> Result<Key, NoMemory>
+    ensures { IfOk result (λ key. key ≡ key_of def.now row.now) }
+{
+    let columns = def.key.as_slice();
+    let mut values = Vec::with_capacity(alloc, columns.len())?;
+    for column in columns {
+        values.push(value_in(alloc, row, *column)?)?;
+    }
+    Ok(Key::of(Items::from_vec(values)))
 }
 
 fn sole_row(rows: &Combination) -> &[Value]
@@ -51,6 +79,30 @@ fn sole_row(rows: &Combination) -> &[Value]
     match rows.as_slice() {
         [Some(row), ..] => row.as_slice(),
         _ => &[],
+    }
+}
+
+// Puts the rows under the key, or answers the key where it stands already. The map is searched once.
+fn put(
+    alloc: Global,
+    map: &mut BTreeMap<Key, Combination>,
+    key: Key,
+    rows: Combination,
+) -> Result<Option<Key>, NoMemory>
+    ensures stood { IfOk result (λ stood. stood ≡ key_there key map.old.entries) }
+    ensures after { OnOk result (map.new.entries ≡ put_in key rows map.old.entries) }
+    ensures kept { OnErr result (map.new.entries ≡ map.old.entries) }
+{
+    match map.entry(key)? {
+        Entry::Vacant(free) => {
+            free.insert(rows);
+            Ok(None)
+        }
+        Entry::Occupied(taken) => {
+            let key = taken.key().copy(alloc);
+            taken.into_mut();
+            Ok(Some(key?))
+        }
     }
 }
 
@@ -123,6 +175,22 @@ impl StoredTable {
         Ok(self.has_row(key, row) && keeps_key && fits(&self.def, after))
     }
 
+    /// Inserts a row that fits, or answers its key where a row has it.
+    pub(crate) fn insert_fitting(
+        &mut self,
+        alloc: Global,
+        row: Row,
+    ) -> Result<Option<Key>, NoMemory>
+        requires { fits self.old.def row ≡ true }
+        ensures stood { IfOk result (λ stood. stood ≡ standing_key (Some self.old) row) }
+        ensures after { OnOk result (self.new ≡ unwrap_or (after_insert row self.old) self.old) }
+        ensures kept { OnErr result (self.new ≡ self.old) }
+    {
+        let key = tight_key(alloc, &self.def, row.as_slice())?;
+        let rows = alone(alloc, row)?;
+        put(alloc, &mut self.rows, key, rows)
+    }
+
     fn insert(&mut self, alloc: Global, row: &Row) -> Result<bool, NoMemory>
         ensures applied { IfOk result (λ applied. applied ≡ is_some (after_insert row.now self.old)) }
         ensures after { OnOk result (self.new ≡ unwrap_or (after_insert row.now self.old) self.old) }
@@ -131,13 +199,9 @@ impl StoredTable {
         if !fits(&self.def, row) {
             return Ok(false);
         }
-        let key = self.def.key_of(alloc, row)?;
-        if self.has_key(&key) {
-            return Ok(false);
-        }
-        let rows = alone(alloc, row)?;
-        self.rows.insert(key, rows)?;
-        Ok(true)
+        let row = row.copy(alloc)?;
+        let stood = self.insert_fitting(alloc, row)?;
+        Ok(stood.is_none())
     }
 
     fn update(&mut self, alloc: Global, before: &Row, after: &Row) -> Result<bool, NoMemory>
@@ -149,7 +213,7 @@ impl StoredTable {
         if !self.may_become(alloc, &key, before, after)? {
             return Ok(false);
         }
-        let rows = alone(alloc, after)?;
+        let rows = alone_copy(alloc, after)?;
         self.rows.insert(key, rows)?;
         Ok(true)
     }

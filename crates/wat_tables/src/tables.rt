@@ -2,13 +2,14 @@ ghost use Rattle.std.specs.Prelude.{◌≡◌, ◌==◌, ◌++◌, ◌∷◌, []
 ghost use Rattle.std.specs.List.{filter};
 ghost use Rattle.std.specs.Option.{option_copied};
 ghost use Rattle.wat_value.specs.Changes.{changed_table};
+ghost use Rattle.wat_value.specs.declared.change.Change.TheVariants as change;
 ghost use Rattle.wat_value.specs.declared.change.SchemaChange.TheVariants as schema_change;
 ghost use Rattle.wat_value.specs.declared.definition.IndexDef.{IndexDef as Index};
 ghost use Rattle.wat_schema.specs.Catalog.{repeats};
 ghost use Rattle.wat_schema.specs.Definitions.{allows};
 ghost use Rattle.wat_schema.specs.Tables.{IsTables, after_alter, apply, apply_change, catalog_of, row_at, table_at};
 ghost use Rattle.wat_meaning.specs.Meaning.{table_called};
-ghost use Rattle.wat_tables.specs.Acting.{empty_table, empty_tables};
+ghost use Rattle.wat_tables.specs.Acting.{empty_table, empty_tables, is_fitting, standing_key};
 
 use crate::stored_table::StoredTable;
 use indexmap::IndexSet;
@@ -16,7 +17,7 @@ use std::alloc::Global;
 use std::marker::Model;
 use wat_list::{Copied, Items, NoMemory};
 use wat_schema::Schema;
-use wat_value::{Act, Change, IndexDef, IndexDefs, Key, SchemaChange, TableDef, Value};
+use wat_value::{Act, Change, IndexDef, IndexDefs, Key, Row, SchemaChange, TableDef, Value};
 
 /// The tables of a database, by number, and the next table number.
 #[derive(Drop)]
@@ -189,6 +190,24 @@ impl Tables {
                 table.apply(alloc, change)
             }
             None => Ok(false),
+        }
+    }
+
+    /// Inserts a row that fits the table with the number, unless a row has its key: then it answers the
+    /// key. The row is moved, and the table is searched once.
+    pub fn insert(&mut self, table: u32, row: Row) -> Result<Option<Key>, NoMemory>
+        requires { is_fitting (table_at self.old table) row ≡ true }
+        ensures stood { IfOk result (λ stood. stood ≡ standing_key (table_at self.old table) row) }
+        ensures after { OnOk result (self.new ≡ unwrap_or (apply_change (change.Insert table row) self.old) self.old) }
+        ensures kept { OnErr result (self.new ≡ self.old) }
+    {
+        let alloc = *self.tables.allocator();
+        match self.numbers.get_index_of(&table) {
+            Some(i) => {
+                let table = &mut self.tables[i];
+                table.insert_fitting(alloc, row)
+            }
+            None => unreachable!(),
         }
     }
 
