@@ -27,7 +27,7 @@ works_on me a b c x y z real one two = record {
           | inr order ↦ elim order [ inl less ↦ omega arith | inr more ↦ absurd (let no : true ≡ false = sym (lt-ltb p n more) ∙ h in cc) ]
         ]
 
-section_at : (book : Book) (owners : Owners) (who page : ℕ) → page < book.count → owners page ≡ who → section book owners who page ≡ Some (book.page page)
+pub section_at : (book : Book) (owners : Owners) (who page : ℕ) → page < book.count → owners page ≡ who → section book owners who page ≡ Some (book.page page)
 section_at book owners who page below is = ap₂ (λ a b. if a && b then Some (book.page page) else None) (lt-ltb page book.count below) (eq-eqb (owners page) who is)
 
 -- the pages of the others are as they were
@@ -171,10 +171,10 @@ chain_once p first here rest chain = elim (cases_Bool (list_any (nat_eq here) re
       absurd (omega (arith, lengths, w.shorter))
 ]
 
-owner_here : (page who : ℕ) (owners : Owners) → with_owner page who owners page ≡ who
+pub owner_here : (page who : ℕ) (owners : Owners) → with_owner page who owners page ≡ who
 owner_here page who owners = ap (λ b. if b then who else owners page) (eq-eqb page page refl)
 
-owner_there : (page who other : ℕ) (owners : Owners) → other ≢ page → with_owner page who owners other ≡ owners other
+pub owner_there : (page who other : ℕ) (owners : Owners) → other ≢ page → with_owner page who owners other ≡ owners other
 owner_there page who other owners apart = ap (λ b. if b then who else owners other) (ne_eqb page other (λ e. apart (sym e)))
 
 -- a section is told by what it names

@@ -1,6 +1,7 @@
 ghost use Rattle.std.specs.Prelude.{◌≡◌, ◌≢◌, ◌<◌, ◌∷◌, [], ℕ, List, nat_eq, false, true};
-ghost use Rattle.std.specs.List.{list_any};
+ghost use Rattle.std.specs.List.{list_any, IsDistinct};
 ghost use Rattle.wat_book.specs.Book.{Book, Owners, nobody, header, Section, section, IsFreeChain, IsOwned, Works, WorksTo, with_owner, TakesPage, GivesPage, Writes, SameBook, SameButHeader};
+ghost use Rattle.wat_book.specs.Chains.{IsChain, all_pages, BreaksAt};
 
 /// The frame rule: the work of one owner leaves the pages of every other owner, so a fact on these goes on by itself; no
 /// step is work, and work after work is work.
@@ -25,4 +26,13 @@ pub fn step_laws()
 /// No page comes twice in a free list.
 pub fn chain_law()
     ensures { (pages : Section) (first here : ℕ) (rest : List ℕ) → IsFreeChain pages first (here ∷ rest) → list_any (nat_eq here) rest ≡ false }
+{}
+
+/// One chain begins at a page, with one payload; no page comes twice in it, and it breaks nowhere. A chain of one owner's
+/// pages is one whoever has them.
+pub fn payload_laws()
+    ensures one { (pages : Section) (first : ℕ) (a b x y : List ℕ) → IsChain pages first a x → IsChain pages first b y → (a ≡ b) × (x ≡ y) }
+    ensures once { (pages : Section) (first : ℕ) (list payload : List ℕ) → IsChain pages first list payload → IsDistinct nat_eq list }
+    ensures sound { (pages : Section) (first here : ℕ) (list payload : List ℕ) → IsChain pages first list payload → BreaksAt pages [] first here → ⊥ }
+    ensures owned { (book : Book) (owners : Owners) (who first : ℕ) (list payload : List ℕ) → IsChain (section book owners who) first list payload → IsChain (all_pages book) first list payload }
 {}

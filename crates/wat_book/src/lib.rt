@@ -3,4 +3,4 @@
 
 mod laws;
 
-pub use laws::{chain_law, frame_law, step_laws};
+pub use laws::{chain_law, frame_law, payload_laws, step_laws};

@@ -1,5 +1,5 @@
 -- The pages now, as they are read, and as the next checkpoint has them.
-use Rattle.std.proofs.Common.{◌≡◌, ◌≢◌, inl, inr, ⊎_elim, ℕ, ◌+◌, ◌*◌, ◌<◌, ◌≤◌, Bool, true, false, List, [], ◌∷◌, ◌++◌, length, take, Option, Some, None, refl, sym, ◌∙◌, ap, subst, arith}
+use Rattle.std.proofs.Common.{◌≡◌, ◌≢◌, inl, inr, ⊎_elim, ℕ, ◌+◌, ◌*◌, ◌<◌, ◌≤◌, Bool, true, false, List, [], ◌∷◌, ◌++◌, length, take, drop, Option, Some, None, refl, sym, ◌∙◌, ap, subst, arith, length-drop}
 use Rattle.std.specs.Prelude.{nat_eq, nat_lt, ◌==◌, ◌&&◌, if◌then◌else◌, cond, MatchOption, IsSome, ◌||◌, unwrap_or, Result, Ok, Err, OnOk, OnErr}
 use Rattle.std.specs.List.{flat_map, list_any, AllByRecursion, IsDistinct}
 use Rattle.std.specs.List.Sorted.{IsStrictlySortedBy}
@@ -10,7 +10,7 @@ use Rattle.std.specs.BTreeMap.{BTreeMap, get, insert_entry, Updates}
 use Rattle.std.specs.Cmp.{nat_eq_equiv}
 use Rattle.std.specs.Map.{lookup, keys_of}
 use Rattle.std.proofs.lemmas.Bool.{cases_eq, cases_lt, eq-eqb, ne_eqb}
-use Rattle.std.proofs.lemmas.List.{map-append}
+use Rattle.std.proofs.lemmas.List.{map-append, length-take}
 use Rattle.std.proofs.lemmas.List.Elements.{recursion_from_All, All-from_recursion}
 use Rattle.std.proofs.lemmas.Map.Keys.{IsDistinct-push}
 use Rattle.wat_disk.specs.Disk.{Image, Told, Leaves, SameFiles, EachStop}
@@ -21,7 +21,7 @@ use Rattle.wat_gate.specs.declared.gate_log.GateLog.{GateLog}
 use Rattle.wat_restore.specs.Head.{Head, head_bytes}
 use Rattle.wat_restore.specs.Images.{AllWhole}
 use Rattle.wat_restore.specs.Opening.{IsMissing, IsHeadIn}
-use Rattle.wat_restore.specs.Restored.{page_at, HasPage, laid, images_of, images_in, StandsIn, stored_page, Checkpoint, IsCovered}
+use Rattle.wat_restore.specs.Restored.{page_at, HasPage, laid, images_of, images_in, image_of, StandsIn, stored_page, Checkpoint, IsCovered}
 use Rattle.wat_restore.specs.Safe.{IsSafe, Covers, CoversEither, HasPages}
 use Rattle.wat_restore.proofs.Laid.{laid_page}
 use Rattle.wat_restore.proofs.Covering.{whole-append, covered_same}
@@ -31,7 +31,7 @@ use Rattle.wat_images.specs.Refusal.{IfDamaged}
 use Rattle.wat_images.specs.declared.refusal.PageRefusal.{PageRefusal}
 use Rattle.wat_images.proofs.Maps.{get_is, updates_is, whole_insert}
 use Rattle.wat_images.proofs.Sequence.{distinct_sorted}
-use Rattle.wat_images.proofs.Writing.{if_damaged}
+use Rattle.wat_images.proofs.Writing.{if_damaged, stands_imaged, stands_main}
 use Rattle.wat_book.specs.Book.{Book, Owners, nobody, section, next_in, IsFreePage, IsFreeChain}
 use borrow.Author.Tests.{ltb-true}
 use Rattle.wat_pages.specs.declared.pages.Pages.{Pages}
@@ -85,6 +85,19 @@ absent_in told pages page none = ap (λ o. unwrap_or o (stored_page told.content
 pub changed_in : (told : Told) (pages : Pages) (page : ℕ) (bytes : List ℕ) → Some bytes ≡ get nat_cmp pages.changed page → page_in told pages page ≡ bytes
 unfolding page_in
 changed_in told pages page bytes some = ap (λ o. unwrap_or o (stored_page told.content page)) (sym (get_is pages.changed page) ∙ sym some)
+
+-- a page that isn't in the files is cut: they have fewer bytes of it
+pub missing_cut : (told : Told) (pages : Pages) (page file at : ℕ) → None ≡ get nat_cmp pages.changed page → IsMissing told.content page file at → length (page_in told pages page) ≢ 4096
+missing_cut told pages page file at none missing long = by (image_of told.content page) refl (sym (ap length (absent_in told pages page none)) ∙ long)
+  where
+    by : (o : Option (List ℕ)) → image_of told.content page ≡ o → length (stored_page told.content page) ≡ 4096 → ⊥
+    by (Some image) is whole = missing.none image (stands_imaged told.content page image image is refl)
+    by None is whole =
+        let main = told.content 0 in
+        let same : stored_page told.content page ≡ page_at main page = ap (λ o. unwrap_or o (page_at main page)) is in
+        let size : length (take 4096 (drop (4096 * page) main)) ≡ 4096 = sym (ap length same) ∙ whole in
+        missing.none (page_at main page)
+        (stands_main told.content page (page_at main page) is (record { whole = omega (arith, size, length-take 4096 (drop (4096 * page) main), length-drop (4096 * page) main); is = refl }))
 
 -- a page that isn't changed was there at the last checkpoint
 pub was_stored : (pages : Pages) (page : ℕ) → AreChanged pages.changed.entries pages.stored pages.count → page < pages.count → None ≡ get nat_cmp pages.changed page → page < pages.stored

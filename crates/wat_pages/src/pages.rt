@@ -1,5 +1,5 @@
 // The pages of a database: changed in memory, and written to main in a checkpoint.
-ghost use Rattle.std.specs.Prelude.{◌≡◌, ◌≢◌, ◌↔◌, ◌+◌, ◌*◌, ◌<◌, ◌≤◌, [], ℕ, List, nat_eq, OnOk, IfOk, IfErr, IsTrue};
+ghost use Rattle.std.specs.Prelude.{◌≡◌, ◌≢◌, ◌↔◌, ◌+◌, ◌*◌, ◌<◌, ◌≤◌, [], ℕ, List, length, nat_eq, OnOk, IfOk, IfErr, IsTrue};
 ghost use Rattle.std.specs.Map.{lookup};
 ghost use Rattle.wat_disk.specs.Disk.{SameFiles, EachStop};
 ghost use Rattle.wat_faults.specs.Faults.{HasCause};
@@ -176,6 +176,7 @@ impl Pages {
 
         // Only a page of the last checkpoint that isn't in the files is damaged.
         ensures damaged { D.tells_content → IfErr result (λ refusal. IfDamaged refusal (λ file at. (page < stored_of self.old) × IsMissing (D.told disk.old).content page file at)) }
+        ensures cut { D.tells_content → IfErr result (λ refusal. IfDamaged refusal (λ file at. length (page_in (D.told disk.old) self.old page) ≢ 4096)) }
         ensures undamaged { D.tells_content → (saved : Checkpoint) → IsSafe saved (D.told disk.old) → saved.count ≡ stored_of self.old → IfErr result (λ refusal. IfDamaged refusal (λ file at. ⊥)) }
         ensures limited { IfErr result (λ refusal. IfPageLimit refusal (λ count limit. ⊥)) }
         ensures cause { HasCause (D.told disk.old).faults (D.told disk.new).faults (result ≡ Err PageRefusal.DiskFault) }
@@ -228,6 +229,8 @@ impl Pages {
     /// A page more, of zeros.
     fn add_page(&mut self, within: Within) -> Result<u32, PageRefusal>
         ensures page { IfOk result (λ page. page ≡ count_of self.old) }
+        ensures some { 0 < count_of self.old }
+        ensures grows { count_of self.old ≤ count_of self.new }
         ensures count { OnOk result (count_of self.new ≡ count_of self.old + 1) }
         ensures limit { limit_of self.new ≡ limit_of self.old }
         ensures free { first_free_of self.new ≡ first_free_of self.old }
@@ -269,6 +272,8 @@ impl Pages {
 
         ensures page { IfOk result (λ page. page ≡ page_taken (book_of (D.told disk.old) self.old)) }
         ensures taken { D.tells_content → OnOk result (TakesPage (book_of (D.told disk.old) self.old) (book_of (D.told disk.new) self.new)) }
+        ensures numbered { IfOk result (λ page. (0 < page) × (page < count_of self.new)) }
+        ensures grows { count_of self.old ≤ count_of self.new }
         ensures limit { limit_of self.new ≡ limit_of self.old }
         ensures stored { stored_of self.new ≡ stored_of self.old }
         ensures header { header_of self.new ≡ header_of self.old }
@@ -299,7 +304,8 @@ impl Pages {
 
         ensures page { IfOk result (λ page. page ≡ first_free_of self.old) }
         ensures free { D.tells_content → OnOk result (first_free_of self.new ≡ next_in (page_in (D.told disk.old) self.old (first_free_of self.old))) }
-        ensures count { OnOk result (count_of self.new ≡ count_of self.old) }
+        ensures below { IfOk result (λ page. page < count_of self.old) }
+        ensures count { count_of self.new ≡ count_of self.old }
         ensures limit { limit_of self.new ≡ limit_of self.old }
         ensures stored { stored_of self.new ≡ stored_of self.old }
         ensures header { header_of self.new ≡ header_of self.old }
@@ -332,6 +338,7 @@ impl Pages {
         requires page { page < count_of self.old }
 
         ensures given { D.tells_content → OnOk result (GivesPage page (book_of (D.told disk.old) self.old) (book_of (D.told disk.new) self.new)) }
+        ensures count { count_of self.new ≡ count_of self.old }
         ensures limit { limit_of self.new ≡ limit_of self.old }
         ensures stored { stored_of self.new ≡ stored_of self.old }
         ensures header { header_of self.new ≡ header_of self.old }

@@ -21,7 +21,8 @@ use wat_value::{
 // Each function of this file reads what the bytes begin with, and gives back the rest behind it. It
 // answers `None` exactly where they begin with no such thing.
 
-fn read_count(bytes: &[u8]) -> Option<(u16, &[u8])>
+/// The number of 2 bytes that the bytes begin with, and the rest; `None` exactly where there are fewer.
+pub fn read_count(bytes: &[u8]) -> Option<(u16, &[u8])>
     ensures { MatchOption result (BeginsNone count_bytes IsCount bytes.now) (λ x. Begins count_bytes IsCount bytes.now x.0 x.1.now) }
 {
     if bytes.len() < 2 {
@@ -30,7 +31,8 @@ fn read_count(bytes: &[u8]) -> Option<(u16, &[u8])>
     Some((BigEndian::read_u16(bytes), &bytes[2..]))
 }
 
-fn read_number(bytes: &[u8]) -> Option<(u32, &[u8])>
+/// The number of 4 bytes that the bytes begin with, and the rest; `None` exactly where there are fewer.
+pub fn read_number(bytes: &[u8]) -> Option<(u32, &[u8])>
     ensures { MatchOption result (BeginsNone number_bytes IsNumber bytes.now) (λ x. Begins number_bytes IsNumber bytes.now x.0 x.1.now) }
 {
     if bytes.len() < 4 {
@@ -227,7 +229,8 @@ fn read_row(alloc: Global, bytes: &[u8]) -> Result<Option<(Row, &[u8])>, NoMemor
     }
 }
 
-fn read_change(alloc: Global, bytes: &[u8]) -> Result<Option<(Change, &[u8])>, NoMemory>
+/// The change that the bytes begin with, and the rest behind it; `None` exactly where they begin with no change's bytes.
+pub fn read_change(alloc: Global, bytes: &[u8]) -> Result<Option<(Change, &[u8])>, NoMemory>
     ensures { IfOk result (λ o. MatchOption o (BeginsNone change_bytes IsEncodableChange bytes.now) (λ x. Begins change_bytes IsEncodableChange bytes.now x.0 x.1.now)) }
 {
     let Some((tag, rest)) = bytes.split_first() else {

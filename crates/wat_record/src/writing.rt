@@ -43,8 +43,9 @@ pub(crate) const VARCHAR: u8 = 3;
 
 // After an `Err` of a function of this file some bytes may stand behind those that `out` had.
 
+/// Adds a number of 2 bytes, the higher first.
 #[tactic(auto, unfolding(wat_value::specs::Encoding::count_bytes))]
-fn push_count(count: u16, out: &mut Vec<u8>) -> Result<(), NoMemory>
+pub fn push_count(count: u16, out: &mut Vec<u8>) -> Result<(), NoMemory>
     ensures ok { OnOk result (out.new.items ≡ out.old.items ++ count_bytes count) }
     ensures err { OnErr result (take (vec_len out.old) out.new.items ≡ out.old.items) }
 {
@@ -53,8 +54,9 @@ fn push_count(count: u16, out: &mut Vec<u8>) -> Result<(), NoMemory>
     out.extend_from_slice(&bytes)
 }
 
+/// Adds a number of 4 bytes, the highest first.
 #[tactic(auto, unfolding(wat_log_record::specs::Encoding::number_bytes))]
-fn push_number(number: u32, out: &mut Vec<u8>) -> Result<(), NoMemory>
+pub fn push_number(number: u32, out: &mut Vec<u8>) -> Result<(), NoMemory>
     ensures ok { OnOk result (out.new.items ≡ out.old.items ++ number_bytes number) }
     ensures err { OnErr result (take (vec_len out.old) out.new.items ≡ out.old.items) }
 {
@@ -149,7 +151,8 @@ fn push_index(index: &IndexDef, out: &mut Vec<u8>) -> Result<(), NoMemory>
     push_counted(index.columns.as_slice(), out)
 }
 
-fn push_change(change: &Change, out: &mut Vec<u8>) -> Result<(), NoMemory>
+/// Adds the bytes of a change. Each row has fewer than 65,536 values, and each of its texts fewer than 65,536 bytes.
+pub fn push_change(change: &Change, out: &mut Vec<u8>) -> Result<(), NoMemory>
     requires { IsWritableChange change.now }
     ensures ok { OnOk result (out.new.items ≡ out.old.items ++ change_bytes change.now) }
     ensures encodable { OnOk result (IsEncodableChange change.now) }

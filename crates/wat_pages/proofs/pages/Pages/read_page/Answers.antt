@@ -1,4 +1,4 @@
-use Rattle.std.proofs.Common.{◌≡◌, ◌<◌, ◌∙◌, refl, sym, subst, Some}
+use Rattle.std.proofs.Common.{◌≡◌, ◌≢◌, ◌<◌, ◌∙◌, length, refl, sym, subst, Some}
 use Rattle.std.specs.Prelude.{nat_eq}
 use Rattle.std.specs.Map.{lookup}
 use Rattle.std.proofs.lemmas.Result.{err_from_is_err_and}
@@ -9,7 +9,8 @@ use Rattle.wat_restore.specs.Opening.{IsMissing}
 use Rattle.wat_restore.proofs.Heads.{stands_is}
 use Rattle.wat_images.proofs.Maps.{get_is}
 use Rattle.wat_images.proofs.Writing.{if_damaged}
-use Rattle.wat_pages.proofs.Changed.{reads_cover, reads_safe, absent_in, changed_in, page_same, was_stored, not_missing, read_more, images_same}
+use Rattle.wat_pages.specs.Pages.{page_in}
+use Rattle.wat_pages.proofs.Changed.{reads_cover, reads_safe, absent_in, changed_in, page_same, missing_cut, was_stored, not_missing, read_more, images_same}
 use Rattle.wat_pages.proofs.pages.Pages.read_page.Goals as goal
 
 pub returns-in_err-read_stored-clause-stops : goal.returns-in_err-read_stored-clause-stops
@@ -80,3 +81,11 @@ returns-in_err-read_stored-clause-undamaged g c tells saved safe count =
     let p = err_from_is_err_and c.from_residual.result c.from_residual.ensures.1 in
     rw (p.1, p.2) (not_missing _ told saved c.args.page s.stored (g.met.D.Disk.reads_as_left c.args.disk.now tells) safe count
     (if_damaged _ (IsMissing files c.args.page) (λ file at. (c.args.page < s.stored) × IsMissing files c.args.page file at) (λ file at missing. (below, missing)) (c.in_err-read_stored.ensures.damaged tells)))
+
+pub returns-in_err-read_stored-clause-cut : goal.returns-in_err-read_stored-clause-cut
+returns-in_err-read_stored-clause-cut g c tells =
+    let s = c.args.self.now in
+    let told = g.D.Disk.told c.args.disk.now in
+    let p = err_from_is_err_and c.from_residual.result c.from_residual.ensures.1 in
+    rw (p.1, p.2) (if_damaged _ (IsMissing told.content c.args.page) (λ file at. length (page_in told s c.args.page) ≢ 4096)
+    (λ file at missing. missing_cut told s c.args.page file at c.in_default.ensures.value missing) (c.in_err-read_stored.ensures.damaged tells))
