@@ -1,0 +1,8 @@
+use Rattle.wat_log.specs.Log.{IsOpenLog}
+use Rattle.wat_log_tests.proofs.buffers.fill.Given as goal
+
+abbrev pub invariant-loop-i : goal.invariant-loop-i
+invariant-loop-i g l = g.D.Disk.tells_content → IsOpenLog (g.D.Disk.told l.disk) l.log
+
+abbrev pub invariant-loop-step : goal.invariant-loop-step
+invariant-loop-step g l = g.D.Disk.tells_content → IsOpenLog (g.D.Disk.told l.disk) l.log
