@@ -1,34 +1,34 @@
-use wat_value::{Key, Rows};
-
-/// A column of the table `t`: `k` or `v`.
-#[derive(Clone, Copy, Debug, PartialEq, Eq)]
-pub enum TableColumn {
-    Key,
-    Value,
-}
+use wat_cycle::Edges;
+use wat_disk::FileId;
+use wat_locks::Against;
+use wat_schema::Refusal;
+use wat_value::Rows;
 
 /// What a statement that was done gives.
 #[derive(Debug, Drop)]
 pub enum Reply {
-    /// The rows, in key order.
+    /// The rows of a SELECT, in their order.
     Rows(Rows),
     /// How many rows were inserted.
     Inserted(u64),
-    /// The number of the commit, from 1.
+    /// How many rows were updated.
+    Updated(u64),
+    /// How many rows were deleted.
+    Deleted(u64),
+    /// A table or an index was created, by the commit of this number.
+    Created(u64),
+    /// A table was dropped, by the commit of this number.
+    Dropped(u64),
+    /// The number of the commit. Those of a session count from 1.
     Committed(u64),
     /// No transaction was open.
     NothingToCommit,
-}
-
-/// Why a statement was not done, by the tables as they stand.
-#[derive(Debug, Drop)]
-pub enum Refusal {
-    /// No statement of the language begins with the tokens up to the one at this place, counted in bytes of the script.
-    Syntax { at: u32 },
-    /// A value is out of the range of its column.
-    OutOfRange { column: TableColumn },
-    /// A row with this key stands.
-    Duplicate { key: Key },
+    RolledBack,
+    Savepoint,
+    BackToSavepoint,
+    Released,
+    Checkpointed,
+    OptionSet,
 }
 
 /// Why a session stopped.
@@ -36,6 +36,10 @@ pub enum Refusal {
 pub enum Reason {
     /// The disk failed.
     DiskFault,
+    /// A file is not what the database left; the place where it goes wrong is counted in bytes.
+    Damaged { file: FileId, at: u64 },
+    /// A page was needed, none was free, and the file had as many as it may have.
+    PageLimit { count: u32, limit: u32 },
     /// Memory ran out.
     Memory,
 }
@@ -43,8 +47,17 @@ pub enum Reason {
 /// The answer to a statement.
 #[derive(Debug, Drop)]
 pub enum Answer {
+    /// It was done.
     Given(Reply),
+    /// It was refused, and changed no row.
     Refused(Refusal),
+    /// Another connection holds a lock in conflict, and the statement was not to wait for it.
+    Locked(Against),
+    /// Waiting would have closed this cycle of connections that wait for one another. It begins with
+    /// the connection that is answered so, whose transaction is rolled back.
+    Deadlock { cycle: Edges },
+    /// A schema statement found transactions open; the least connection that has one.
+    OpenTransaction { conn: u16 },
     /// A statement that is not served yet.
     Unsupported,
     /// The session stopped, at this statement or before it.

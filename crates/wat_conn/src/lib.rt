@@ -5,6 +5,6 @@ mod answer;
 mod script;
 mod session;
 
-pub use answer::{Answer, Reason, Refusal, Reply, TableColumn};
+pub use answer::{Answer, Reason, Reply};
 pub use script::{Script, ScriptList};
-pub use session::{Entry, Moments, Session, Transcript, Transcripts};
+pub use session::{Entry, Moments, Session, TableName, TableNames, Transcript, Transcripts};

@@ -8,7 +8,7 @@ use Rattle.std.proofs.lemmas.List.{take_more}
 use Rattle.std.proofs.lemmas.List.Concat.{flat_map-append}
 use Rattle.std.proofs.lemmas.List.FromFn.{length-range_with_len}
 use Rattle.std.proofs.lemmas.List.Elements.{All-nil, All-cons, All-head, All-tail, All-append, All-push, All-weaker}
-use Rattle.wat_conn.specs.declared.answer.Answer.{Answer}
+use Rattle.wat_onetable_session.specs.declared.answer.Answer.{Answer}
 use Rattle.wat_onetable.specs.declared.statement.Statement.{Statement}
 use Rattle.wat_onetable.specs.declared.statement.Statement.TheVariants.{Insert, Select, Commit, Other, Malformed}
 use Rattle.wat_onetable.specs.Table.{State, begun, put, put_all, pending, is_integer, is_key_of, most_inserts, insert_answer, answer_of, opened, after, AreIntegers, AreInOrder, AreDistinct}

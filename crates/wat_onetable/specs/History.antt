@@ -2,13 +2,13 @@
 use Rattle.std.specs.Prelude.{◌≡◌, ℕ, ◌-◌, ◌≤◌, List, [], ◌∷◌, ◌++◌, length, take, map, replicate, Option, None, Some, ℤ}
 use Rattle.std.specs.Option.{option_to_list}
 use Rattle.std.specs.List.{flat_map, filter_map}
-use Rattle.wat_conn.specs.declared.answer.Answer.{Answer}
-use Rattle.wat_conn.specs.declared.answer.Answer.TheVariants.{Given, Stopped}
-use Rattle.wat_conn.specs.declared.answer.Reply.TheVariants.{Committed}
-use Rattle.wat_conn.specs.declared.answer.Reason.{Reason}
+use Rattle.wat_onetable_session.specs.declared.answer.Answer.{Answer}
+use Rattle.wat_onetable_session.specs.declared.answer.Answer.TheVariants.{Given, Stopped}
+use Rattle.wat_onetable_session.specs.declared.answer.Reply.TheVariants.{Committed}
+use Rattle.wat_onetable_session.specs.declared.answer.Reason.{Reason}
 use Rattle.wat_parse.specs.declared.script.Span.{Span}
 use Rattle.wat_parse.specs.Statements.{statements_of as spans_of}
-use Rattle.wat_conn.specs.declared.session.Entry.{Entry}
+use Rattle.wat_onetable_session.specs.declared.session.Entry.{Entry}
 use Rattle.wat_onetable.specs.declared.statement.Statement.{Statement}
 use Rattle.wat_onetable.specs.declared.statement.Statement.TheVariants.{Commit}
 use Rattle.wat_onetable.specs.Statement.{statements_of}

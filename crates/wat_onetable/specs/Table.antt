@@ -4,11 +4,11 @@ use Rattle.std.specs.List.{list_any}
 use Rattle.std.specs.Ordering.{int_eq}
 use Rattle.wat_value.specs.declared.value.Value.{Value}
 use Rattle.wat_value.specs.declared.value.Value.TheVariants.{Int}
-use Rattle.wat_conn.specs.declared.answer.Answer.{Answer}
-use Rattle.wat_conn.specs.declared.answer.Answer.TheVariants.{Given, Refused, Unsupported}
-use Rattle.wat_conn.specs.declared.answer.Reply.TheVariants.{Rows, Inserted, Committed, NothingToCommit}
-use Rattle.wat_conn.specs.declared.answer.Refusal.TheVariants.{Syntax, OutOfRange, Duplicate}
-use Rattle.wat_conn.specs.declared.answer.TableColumn.TheVariants as column
+use Rattle.wat_onetable_session.specs.declared.answer.Answer.{Answer}
+use Rattle.wat_onetable_session.specs.declared.answer.Answer.TheVariants.{Given, Refused, Unsupported}
+use Rattle.wat_onetable_session.specs.declared.answer.Reply.TheVariants.{Rows, Inserted, Committed, NothingToCommit}
+use Rattle.wat_onetable_session.specs.declared.answer.Refusal.TheVariants.{Syntax, OutOfRange, Duplicate}
+use Rattle.wat_onetable_session.specs.declared.answer.TableColumn.TheVariants as column
 use Rattle.wat_onetable.specs.declared.statement.Statement.{Statement}
 use Rattle.wat_onetable.specs.declared.statement.Statement.TheVariants.{Insert, Select, Commit, Other, Malformed}
 

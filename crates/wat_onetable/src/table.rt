@@ -8,8 +8,8 @@ use crate::statement::Statement;
 use std::alloc::Global;
 use std::collections::BTreeMap;
 use std::marker::Model;
-use wat_conn::{Answer, Refusal, Reply, TableColumn};
 use wat_list::{Items, NoMemory, Reserved};
+use wat_onetable_session::{Answer, Refusal, Reply, TableColumn};
 use wat_value::{Key, Row, Rows, Value};
 
 /// The rows of t by their keys.

@@ -4,11 +4,11 @@ use Rattle.std.specs.List.{list_any}
 use Rattle.std.proofs.lemmas.Bool.{cases_Bool}
 use Rattle.std.proofs.lemmas.List.{length-map, map-append, drop_all}
 use Rattle.std.proofs.lemmas.List.Sums.{sum_by-cons, sum_by-append}
-use Rattle.wat_conn.specs.declared.answer.Answer.{Answer}
-use Rattle.wat_conn.specs.declared.answer.Answer.TheVariants.{Stopped}
-use Rattle.wat_conn.specs.declared.answer.Reason.{Reason}
+use Rattle.wat_onetable_session.specs.declared.answer.Answer.{Answer}
+use Rattle.wat_onetable_session.specs.declared.answer.Answer.TheVariants.{Stopped}
+use Rattle.wat_onetable_session.specs.declared.answer.Reason.{Reason}
 use Rattle.wat_parse.specs.declared.script.Span.{Span}
-use Rattle.wat_conn.specs.declared.session.Entry.{Entry}
+use Rattle.wat_onetable_session.specs.declared.session.Entry.{Entry}
 use Rattle.wat_parse.specs.Statements.{statements_of as spans_of}
 use Rattle.wat_onetable.specs.Statement.{statement_at, statements_of}
 use Rattle.wat_onetable.specs.Table.{State, begun, pending, is_integer, is_key_of, most_inserts, insert_answer, commit_answer, answer_of, after}

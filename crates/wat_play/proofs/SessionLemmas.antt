@@ -3,11 +3,11 @@ use Rattle.std.proofs.Common.{◌≡◌, ◌≢◌, ⊎_elim, ℕ, zero, suc, �
 use Rattle.std.specs.Option.{option_to_list}
 use Rattle.std.proofs.lemmas.List.{length-take, length-map, get_or-map, get_or_append_left, get_or_push, length_push, take_more, map-append}
 use Rattle.std.proofs.lemmas.Bool.{cases_lt}
-use Rattle.wat_conn.specs.declared.answer.Answer.{Answer}
-use Rattle.wat_conn.specs.declared.answer.Reason.{Reason}
-use Rattle.wat_conn.specs.declared.answer.Reason.TheVariants.{DiskFault, Memory}
+use Rattle.wat_onetable_session.specs.declared.answer.Answer.{Answer}
+use Rattle.wat_onetable_session.specs.declared.answer.Reason.{Reason}
+use Rattle.wat_onetable_session.specs.declared.answer.Reason.TheVariants.{DiskFault, Memory}
 use Rattle.wat_parse.specs.declared.script.Span.{Span}
-use Rattle.wat_conn.specs.declared.session.Entry.{Entry}
+use Rattle.wat_onetable_session.specs.declared.session.Entry.{Entry}
 use Rattle.wat_disk.specs.Disk.{Told, SameOthers, MakesAtMost}
 use Rattle.wat_faults.specs.Faults.{HasCause, Rose}
 use Rattle.wat_stops.specs.Moments.{AreMoments, last_moment, moment_after, moments_after}

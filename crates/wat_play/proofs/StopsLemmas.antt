@@ -2,8 +2,8 @@
 use Rattle.std.proofs.Common.{◌≡◌, ◌≢◌, ◌⊎◌, inl, inr, ⊎_elim, ℕ, ◌+◌, ◌<◌, ◌≤◌, List, [], ◌∷◌, ◌++◌, length, get_or, take, drop, map, unwrap_or, option_to_list, replicate, Option, None, Some, ℤ, refl, sym, ◌∙◌, ap, subst, arith, length-append, IsSomeAnd}
 use Rattle.std.specs.List.{Any}
 use Rattle.std.proofs.lemmas.List.{take_all, take-append-le, drop_more}
-use Rattle.wat_conn.specs.declared.answer.Reason.{Reason}
-use Rattle.wat_conn.specs.declared.answer.Reason.TheVariants.{DiskFault, Memory}
+use Rattle.wat_onetable_session.specs.declared.answer.Reason.{Reason}
+use Rattle.wat_onetable_session.specs.declared.answer.Reason.TheVariants.{DiskFault, Memory}
 use Rattle.wat_disk.specs.Disk.{Image, Told, Leaves, IsSynced, InFile, EachStop}
 use Rattle.wat_gate.specs.Bodies.{bodies}
 use Rattle.wat_stops.specs.Commits.{Commits, KeepsCommits}

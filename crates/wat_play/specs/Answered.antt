@@ -1,8 +1,8 @@
 -- What the calls inside say of a session under way.
 use Rattle.std.specs.Prelude.{◌≡◌, ◌⊎◌, ℕ, ◌≤◌, List, [], ◌∷◌, ◌++◌, length, take, map, Option, None, Some, ℤ}
-use Rattle.wat_conn.specs.declared.answer.Answer.TheVariants.{Stopped}
-use Rattle.wat_conn.specs.declared.answer.Reason.{Reason}
-use Rattle.wat_conn.specs.declared.session.Entry.{Entry}
+use Rattle.wat_onetable_session.specs.declared.answer.Answer.TheVariants.{Stopped}
+use Rattle.wat_onetable_session.specs.declared.answer.Reason.{Reason}
+use Rattle.wat_onetable_session.specs.declared.session.Entry.{Entry}
 use Rattle.wat_parse.specs.declared.script.Span.{Span}
 use Rattle.wat_parse.specs.Statements.{statements_of as spans_of}
 use Rattle.wat_disk.specs.Disk.{Told}

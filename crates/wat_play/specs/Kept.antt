@@ -1,11 +1,11 @@
 -- What a session's log keeps of its transactions.
 use Rattle.std.specs.Prelude.{ℕ, List, [], ◌∷◌, ◌++◌, take, drop, map, count_by, Bool, true, false, Option, None, Some, ℤ}
 use Rattle.std.specs.Option.{option_to_list}
-use Rattle.wat_conn.specs.declared.answer.Answer.{Answer}
-use Rattle.wat_conn.specs.declared.answer.Answer.TheVariants.{Stopped}
-use Rattle.wat_conn.specs.declared.answer.Reason.{Reason}
-use Rattle.wat_conn.specs.declared.answer.Reason.TheVariants.{DiskFault}
-use Rattle.wat_conn.specs.declared.session.Entry.{Entry}
+use Rattle.wat_onetable_session.specs.declared.answer.Answer.{Answer}
+use Rattle.wat_onetable_session.specs.declared.answer.Answer.TheVariants.{Stopped}
+use Rattle.wat_onetable_session.specs.declared.answer.Reason.{Reason}
+use Rattle.wat_onetable_session.specs.declared.answer.Reason.TheVariants.{DiskFault}
+use Rattle.wat_onetable_session.specs.declared.session.Entry.{Entry}
 use Rattle.wat_disk.specs.Disk.{Told}
 use Rattle.wat_stops.specs.Commits.{Commits}
 use Rattle.wat_onetable.specs.declared.statement.Statement.{Statement}

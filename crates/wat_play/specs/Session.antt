@@ -1,8 +1,8 @@
 -- A session of one script over the rows of the log.
 use Rattle.std.specs.Prelude.{◌≡◌, ◌≢◌, ℕ, ◌+◌, ◌≤◌, List, [], length, map, Option, None, Some, IsSomeAnd}
-use Rattle.wat_conn.specs.declared.answer.Reason.{Reason}
-use Rattle.wat_conn.specs.declared.answer.Reason.TheVariants.{DiskFault}
-use Rattle.wat_conn.specs.declared.session.Entry.{Entry}
+use Rattle.wat_onetable_session.specs.declared.answer.Reason.{Reason}
+use Rattle.wat_onetable_session.specs.declared.answer.Reason.TheVariants.{DiskFault}
+use Rattle.wat_onetable_session.specs.declared.session.Entry.{Entry}
 use Rattle.wat_disk.specs.Disk.{SameOthers, IsSynced}
 use Rattle.wat_faults.specs.Faults.{Rose}
 use Rattle.wat_stops.specs.Commits.{KeepsCommits}

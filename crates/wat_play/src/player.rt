@@ -7,15 +7,15 @@ ghost use Rattle.wat_onetable.specs.Table.{answer_of, after};
 ghost use Rattle.wat_onetable.specs.History.{committed_by};
 ghost use Rattle.wat_onetable.specs.declared.statement.Statement.TheVariants.{Insert, Select, Commit, Other};
 ghost use Rattle.wat_rowlog.specs.Logged.{body_of};
-ghost use Rattle.wat_conn.specs.declared.answer.Reason.TheVariants.{DiskFault, Memory};
+ghost use Rattle.wat_onetable_session.specs.declared.answer.Reason.TheVariants.{DiskFault, Memory};
 ghost use Rattle.wat_play.specs.Answered.{saved_by, moment_by, KeepsOrSaves};
 
 use crate::saving::save;
 use std::alloc::Global;
-use wat_conn::{Answer, Moments, Reason};
 use wat_disk::Disk;
 use wat_gate::GateLog;
 use wat_onetable::{Statement, Table};
+use wat_onetable_session::{Answer, Moments, Reason};
 
 /// A session under way: the table, its log, and the moments of the commits so far.
 #[derive(Drop)]

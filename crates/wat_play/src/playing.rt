@@ -16,10 +16,10 @@ ghost use Rattle.wat_play.specs.Answered.{under_way, stopped_at, unanswered, IsA
 
 use crate::player::Player;
 use std::alloc::Global;
-use wat_conn::{Answer, Entry, Moments, Reason, Transcript};
 use wat_disk::Disk;
 use wat_list::{NoMemory, Reserved};
 use wat_onetable::{Table, read_statement};
+use wat_onetable_session::{Answer, Entry, Moments, Reason, Transcript};
 use wat_parse::{Span, statements};
 use wat_rowlog::Opened;
 

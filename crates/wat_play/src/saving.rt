@@ -6,13 +6,13 @@ ghost use Rattle.wat_gate.specs.Bodies.{KeepsOrAdds};
 ghost use Rattle.wat_gate.specs.GateLog.{file_of, bodies_in, IsLogOf};
 ghost use Rattle.wat_onetable.specs.Table.{most_inserts};
 ghost use Rattle.wat_rowlog.specs.Logged.{body_of};
-ghost use Rattle.wat_conn.specs.declared.answer.Reason.TheVariants.{DiskFault, Memory};
+ghost use Rattle.wat_onetable_session.specs.declared.answer.Reason.TheVariants.{DiskFault, Memory};
 
 use std::alloc::Global;
-use wat_conn::Reason;
 use wat_disk::Disk;
 use wat_gate::{Frame, GateLog};
 use wat_list::NoMemory;
+use wat_onetable_session::Reason;
 use wat_rowlog::push_rows;
 
 /// A frame of these rows.

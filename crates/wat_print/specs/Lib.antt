@@ -1,2 +1,4 @@
 pub mod Literal
+pub mod Locks
+pub mod Answers
 pub mod Printed

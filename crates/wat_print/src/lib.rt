@@ -1,8 +1,12 @@
 //! The printed text of values and of a session.
 #![tactic(auto)]
 
+mod answer;
+mod lines;
 mod literal;
-mod print;
+mod lock;
+mod refusal;
+mod session;
 
 pub use literal::push_row;
-pub use print::printed;
+pub use session::printed;

@@ -8,9 +8,9 @@ use Rattle.wat_rowlog.specs.Logged.{log_file, Restarts}
 use Rattle.wat_onetable.specs.History.{rows_after}
 use Rattle.wat_play.specs.Kept.{Setting, answered_of, transactions_of, commits_of}
 use Rattle.wat_play.specs.Session.{HasAnswered, IsSession}
-use Rattle.wat_conn.specs.declared.answer.Reason.{Reason}
-use Rattle.wat_conn.specs.declared.session.Entry.{Entry}
-use Rattle.wat_conn.specs.declared.session.Session.{Session}
+use Rattle.wat_onetable_session.specs.declared.answer.Reason.{Reason}
+use Rattle.wat_onetable_session.specs.declared.session.Entry.{Entry}
+use Rattle.wat_onetable_session.specs.declared.session.Session.{Session}
 use Rattle.std.proofs.Common.{Option}
 use Rattle.wat_tool.specs.Ending.{Outside, IsSessionOf, IsUntouched}
 use Rattle.wat_tool.specs.Steps.{PlaysOne}

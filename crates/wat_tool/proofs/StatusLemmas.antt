@@ -12,9 +12,9 @@ use Rattle.wat_rowlog.specs.declared.making.InitRefusal.{InitRefusal}
 use Rattle.wat_rowlog.specs.declared.making.InitRefusal.TheVariants as refusal
 use Rattle.wat_rowlog.specs.declared.opening.OpenWhy.{OpenWhy}
 use Rattle.wat_rowlog.specs.declared.opening.OpenWhy.TheVariants as why
-use Rattle.wat_conn.specs.declared.session.Session.{Session}
-use Rattle.wat_conn.specs.declared.answer.Reason.{Reason}
-use Rattle.wat_conn.specs.declared.answer.Reason.TheVariants as reason
+use Rattle.wat_onetable_session.specs.declared.session.Session.{Session}
+use Rattle.wat_onetable_session.specs.declared.answer.Reason.{Reason}
+use Rattle.wat_onetable_session.specs.declared.answer.Reason.TheVariants as reason
 use Rattle.wat_words.specs.Commands.{command_of, names_of}
 use Rattle.wat_words.specs.declared.Command.{Command}
 use Rattle.wat_words.specs.declared.Command.TheVariants.{Init, Run}

@@ -8,9 +8,9 @@ use Rattle.wat_io.specs.Scripts.{Texts}
 use Rattle.wat_disk.specs.Bytes.{Torn}
 use Rattle.wat_disk.specs.Disk.{Told, SameFiles, SameOthers, EachStop, EachLeft, InFile}
 use Rattle.wat_gate.specs.Bodies.{bodies}
-use Rattle.wat_conn.specs.declared.session.Entry.{Entry}
-use Rattle.wat_conn.specs.declared.session.Session.{Session}
-use Rattle.wat_conn.specs.declared.answer.Reason.TheVariants.{DiskFault}
+use Rattle.wat_onetable_session.specs.declared.session.Entry.{Entry}
+use Rattle.wat_onetable_session.specs.declared.session.Session.{Session}
+use Rattle.wat_onetable_session.specs.declared.answer.Reason.TheVariants.{DiskFault}
 use Rattle.wat_rowlog.specs.Logged.{log_file, Restarts}
 use Rattle.wat_rowlog.specs.Making.{MayMake}
 use Rattle.wat_rowlog.specs.Opening.{MayOpen}

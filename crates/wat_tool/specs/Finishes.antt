@@ -1,7 +1,7 @@
 -- What a call of the program leaves.
 use Rattle.std.specs.Prelude.{◌≡◌, ◌≢◌, ◌⊎◌, ℕ, List, None, Some, Ok, Result, Option, IfErr}
 use Rattle.wat_faults.specs.Faults.{Rose}
-use Rattle.wat_conn.specs.declared.session.Session.{Session}
+use Rattle.wat_onetable_session.specs.declared.session.Session.{Session}
 use Rattle.wat_words.specs.Commands.{command_of}
 use Rattle.wat_words.specs.declared.Command.{Command}
 use Rattle.wat_words.specs.declared.Command.TheVariants.{Init, Run}

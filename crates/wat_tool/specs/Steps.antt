@@ -2,8 +2,8 @@
 use Rattle.std.specs.Prelude.{◌≡◌, ◌≤◌, ℕ, List, [], ◌∷◌, length, Result, Ok, Err, ℤ}
 use Rattle.wat_list.specs.Reservation.{Reservation}
 use Rattle.wat_disk.specs.Disk.{Told}
-use Rattle.wat_conn.specs.declared.session.Entry.{Entry}
-use Rattle.wat_conn.specs.declared.session.Session.{Session}
+use Rattle.wat_onetable_session.specs.declared.session.Entry.{Entry}
+use Rattle.wat_onetable_session.specs.declared.session.Session.{Session}
 use Rattle.wat_rowlog.specs.Logged.{log_file}
 use Rattle.wat_rowlog.specs.declared.opening.Opened.{Opened}
 use Rattle.wat_play.specs.Session.{IsSession}

@@ -14,10 +14,11 @@ ghost use Rattle.wat_tool.specs.Steps.{IsOneText, PlaysOne, rows_of};
 
 use std::alloc::Global;
 use wat_begin::{Fault, read_scripts};
-use wat_conn::{ScriptList, Session};
+use wat_conn::ScriptList;
 use wat_disk::Disk;
 use wat_io::Scripts;
 use wat_list::{Reserved, item};
+use wat_onetable_session::Session;
 use wat_play::play;
 use wat_rowlog::{InitRefusal, OpenWhy, Opened, init, open};
 use wat_words::{Command, read_words, script_names};

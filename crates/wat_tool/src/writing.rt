@@ -9,9 +9,9 @@ use crate::performing::Done;
 use itoa::Buffer;
 use std::alloc::Global;
 use wat_begin::Fault;
-use wat_conn::{Reason, Session};
 use wat_io::{Sink, SinkFault, write_all};
-use wat_print::printed;
+use wat_onetable_print::printed;
+use wat_onetable_session::{Reason, Session};
 
 /// Writes one text and then another.
 #[tactic(auto, using(crate::proofs::SinkLemmas::appended))]

@@ -2,9 +2,9 @@
 use std::alloc::Global;
 use std::fmt::Write;
 use wat_begin::Fault;
-use wat_conn::{Answer, Reply, Session};
 use wat_folder::Holder;
 use wat_list::NoMemory;
+use wat_onetable_session::{Answer, Reply, Session};
 use wat_words::Command;
 
 const COMMANDS: &str = "The commands, in the folder of the database:

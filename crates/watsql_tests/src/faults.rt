@@ -4,8 +4,8 @@ use crate::calls::{
 };
 use std::alloc::{AllocError, Global};
 use std::test::Fail;
-use wat_conn::Reason;
 use wat_disk::Disk;
+use wat_onetable_session::Reason;
 
 const NO_DISK: &str = "watsql: disk fault\n";
 

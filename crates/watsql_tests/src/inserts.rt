@@ -1,8 +1,8 @@
 // The table by itself.
 use std::collections::BTreeMap;
 use std::test::Fail;
-use wat_conn::{Answer, Reply};
 use wat_onetable::{Table, answer_laws};
+use wat_onetable_session::{Answer, Reply};
 
 fn is_inserted(answer: &Answer) -> bool {
     matches!(answer, Answer::Given(Reply::Inserted(1)))

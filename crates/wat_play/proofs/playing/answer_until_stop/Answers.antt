@@ -1,7 +1,7 @@
 -- Each turn is one statement more.
 use Rattle.std.proofs.Common.{◌≡◌, ◌≢◌, ◌+◌, ◌<◌, ◌++◌, ℕ, List, [], map, length, get_or, Err, None, Some, IsSomeAnd, ℤ, refl, sym, ◌∙◌, ap, subst, arith}
-use Rattle.wat_conn.specs.declared.answer.Reason.{Reason}
-use Rattle.wat_conn.specs.declared.answer.Reason.TheVariants.{DiskFault}
+use Rattle.wat_onetable_session.specs.declared.answer.Reason.{Reason}
+use Rattle.wat_onetable_session.specs.declared.answer.Reason.TheVariants.{DiskFault}
 use Rattle.std.proofs.lemmas.List.{length-map}
 use Rattle.wat_parse.specs.declared.script.Span.{Span}
 use Rattle.wat_disk.specs.Disk.{IsSynced, InFile, SameOthers, EachStop}

@@ -1,0 +1,10 @@
+pub mod Connection
+pub mod Fits
+pub mod History
+pub mod Serial
+pub mod Plain
+pub mod Naming
+pub mod Cut
+pub mod Single
+pub mod Sessions
+pub mod Cases

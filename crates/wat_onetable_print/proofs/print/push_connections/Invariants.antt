@@ -1,0 +1,10 @@
+use Rattle.std.proofs.Common.{◌≡◌, ◌+◌, ◌++◌, drop}
+use Rattle.std.specs.List.{flat_map, enumerate_from}
+use Rattle.wat_onetable_print.specs.Printed.{connection_text}
+use Rattle.wat_onetable_print.proofs.print.push_connections.Given as goal
+
+-- the text so far, and that of what is left
+abbrev pub invariant-loop-i : goal.invariant-loop-i
+invariant-loop-i l =
+    l.out.items ++ flat_map connection_text (enumerate_from (l.i + 1) (drop l.i l.transcripts))
+    ≡ l.fn.out.items ++ flat_map connection_text (enumerate_from 1 l.transcripts)
