@@ -1,0 +1,7 @@
+pub mod Laws
+pub mod Logged
+pub mod Making
+pub mod Opened
+pub mod Opening
+pub mod Pending
+pub mod Reading

@@ -1,0 +1,3 @@
+pub mod NoSyntax
+pub mod Ways
+pub mod Standing
