@@ -1,0 +1,13 @@
+pub mod Applied
+pub mod Found
+pub mod Going
+pub mod Meant
+pub mod Named
+pub mod Nest
+pub mod Passing
+pub mod Planned
+pub mod Rows
+pub mod Said
+pub mod Sources
+pub mod Still
+pub mod Transactions
