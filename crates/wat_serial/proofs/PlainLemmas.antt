@@ -59,7 +59,7 @@ use Rattle.wat_meaning.proofs.Inserting.{bytes_itself}
 use Rattle.wat_tables.specs.Acting.{is_fitting, standing_key}
 use Rattle.wat_serial.specs.Changing.{insert_acts, inserted_in, with_acts}
 use Rattle.wat_serial.specs.Duplicates.{refusals_in}
-use Rattle.wat_serial.specs.Plain.{IsPlain, IsRowOf, literals, row_inserted}
+use Rattle.wat_serial.specs.Plain.{IsPlain, IsRowOf, MeansRow, literals, row_inserted}
 use Rattle.wat_serial.specs.declared.plain.PlainRow.{PlainRow}
 use Rattle.wat_serial.specs.Script.{after_meaning}
 use Rattle.wat_serial.proofs.Meanings.{insert_is, standing}
@@ -288,23 +288,34 @@ inserted_is x row fit once =
     ∙ ap₂ (λ faults stood. unless_refused (first ((faults ++ []) ++ stood)) (with_acts (Inserted 1) (OnRow (change.Insert x.def.number row) ∷ [])))
     (no_faults x.def.columns row fit) (append-nil (stands_already (Some x) row))
 
+pub plain_means : (t : Tables) (ok : IsTables t) (name : Name) (x : Table) (exprs : List Expr) (row : Row) → table_called t name ≡ Some x → exprs ≡ literals row → fits x.def row ≡ true
+    → meaning t (Insert name None (Values exprs)) ≡ row_inserted x row
+unfolding meaning
+plain_means t ok name x exprs row called are fit =
+    ap (λ es. meaning t (Insert name None (Values es))) are
+    ∙ ap (after_check t) (let_through (catalog_of t) name x.def.columns row (is_named t name x called) (columns_are t name x called) (fits_typed x.def.columns row fit))
+    ∙ sym (insert_is t name None (Values (literals row)) [] refl x called)
+    ∙ ap (inserted_in x None) (values_are row)
+    ∙ inserted_is x row fit (once_of t.tables x.def.number x (names_differ t ok) (standing t name x called))
+
 pub is_plain : (t : Tables) (ok : IsTables t) (name : Name) (x : Table) (exprs : List Expr) (row : Row) → table_called t name ≡ Some x → exprs ≡ literals row → fits x.def row ≡ true
     → IsPlain t (Insert name None (Values exprs)) x.def.number row
-unfolding meaning
-is_plain t ok name x exprs row called are fit = record {
-  table = x;
-  stands = at;
-  fit = fit;
-  means =
-      ap (λ es. meaning t (Insert name None (Values es))) are
-      ∙ ap (after_check t) (let_through (catalog_of t) name x.def.columns row (is_named t name x called) (columns_are t name x called) (fits_typed x.def.columns row fit))
-      ∙ sym (insert_is t name None (Values (literals row)) [] refl x called)
-      ∙ ap (inserted_in x None) (values_are row)
-      ∙ inserted_is x row fit (once_of t.tables x.def.number x (names_differ t ok) at);
-}
-  where
-    at : table_at t x.def.number ≡ Some x
-    at = standing t name x called
+is_plain t ok name x exprs row called are fit = record { table = x; stands = standing t name x called; fit = fit; means = plain_means t ok name x exprs row called are fit }
+
+-- what a row that is written as literals means
+pub means_row : {E : Type 0} (x : Table) (exprs : List Expr) (found : Option PlainRow) (plain : PlainRow) (r : Result (Option Meaning) E) → found ≡ Some plain
+    → IfSome found (λ it. IsRowOf x exprs it.table it.row) → IfOk r (λ o. IfSome o (λ m. m ≡ row_inserted x plain.row)) → IfOk r (λ o. IfSome o (λ m. MeansRow x exprs m))
+means_row x exprs found plain (Ok None) is given h = h
+means_row x exprs found plain (Ok (Some m)) is given h =
+    let written : IsRowOf x exprs plain.table plain.row = subst (λ it. IfSome it (λ p. IsRowOf x exprs p.table p.row)) is given in
+    record { row = plain.row; written = written.written; fit = written.fit; is = h }
+means_row x exprs found plain (Err e) is given h = h
+
+pub means_there : {E : Type 0} (t : Tables) (ok : IsTables t) (name : Name) (x : Table) (exprs : List Expr) (found : Result (Option Meaning) E) → table_called t name ≡ Some x
+    → IfOk found (λ o. IfSome o (λ m. MeansRow x exprs m)) → IfOk found (λ o. IfSome o (λ m. m ≡ meaning t (Insert name None (Values exprs))))
+means_there t ok name x exprs (Ok None) called h = h
+means_there t ok name x exprs (Ok (Some m)) called h = h.is ∙ sym (plain_means t ok name x exprs h.row called h.written h.fit)
+means_there t ok name x exprs (Err e) called h = h
 
 pub plain_there : {E : Type 0} (t : Tables) (ok : IsTables t) (name : Name) (x : Table) (exprs : List Expr) (found : Result (Option PlainRow) E) → table_called t name ≡ Some x
     → IfOk found (λ o. IfSome o (λ plain. IsRowOf x exprs plain.table plain.row)) → IfOk found (λ o. IfSome o (λ plain. IsPlain t (Insert name None (Values exprs)) plain.table plain.row))

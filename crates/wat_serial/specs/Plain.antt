@@ -41,3 +41,10 @@ pub record IsPlain (t : Tables) (s : Statement) (number : ℕ) (row : Row) : Typ
   pub stands : table_at t number ≡ Some table
   pub fit : fits table.def row ≡ true
   pub means : meaning t s ≡ row_inserted table row
+
+-- The literals write a row that fits the table, and this is what inserting it means.
+pub record MeansRow (x : Table) (exprs : List Expr) (m : Meaning) : Type 0 where
+  pub row : Row
+  pub written : exprs ≡ literals row
+  pub fit : fits x.def row ≡ true
+  pub is : m ≡ row_inserted x row

@@ -4,6 +4,7 @@ ghost use Rattle.wat_rules.specs.Changes.{IsAllowed, changes_schema};
 ghost use Rattle.wat_meaning.specs.Meaning.{has_meaning, meaning, meaning_checked};
 
 use crate::changing::{alter, delete, insert, refused, select, update};
+use crate::plain::plain_meaning;
 use std::alloc::{AllocError, Global};
 use wat_ast::Statement;
 use wat_list::{Items, NoMemory};
@@ -59,9 +60,13 @@ fn any_meaning(alloc: Global, statement: &Statement, tables: &Tables) -> Result<
 /// A statement of transactions, of checkpoints or of options has no meaning here, and nothing is said
 /// of it.
 ///
-/// It keeps no more combinations of rows than pass WHERE; of one source no other rows are copied.
+/// It keeps no more combinations of rows than pass WHERE; of one source no other rows are copied. An INSERT
+/// of literals that fit is not checked, since the checks have nothing to say of it.
 pub fn meaning(alloc: Global, statement: &Statement, tables: &Tables) -> Result<Meaning, NoMemory>
     ensures { has_meaning statement.now ≡ true → IfOk result (λ m. m ≡ meaning tables.now statement.now) }
 {
-    any_meaning(alloc, statement, tables)
+    match plain_meaning(alloc, statement, tables)? {
+        Some(meant) => Ok(meant),
+        None => any_meaning(alloc, statement, tables),
+    }
 }

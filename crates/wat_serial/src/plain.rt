@@ -1,12 +1,16 @@
 // Rows that are inserted without more ado.
 ghost use Rattle.std.specs.Prelude.{◌≡◌, IfOk, IfSome};
-ghost use Rattle.wat_serial.specs.Plain.{IsPlain, IsRowOf, insert_of, literals};
+ghost use Rattle.wat_meaning.specs.Meaning.{meaning};
+ghost use Rattle.wat_serial.specs.Plain.{IsPlain, IsRowOf, MeansRow, insert_of, literals, row_inserted};
 
+use crate::changing::refused;
 use std::alloc::Global;
 use wat_ast::{Expr, InsertSource, Name, Statement};
 use wat_list::{Copied, Items, NoMemory};
+use wat_meaning::{Meaning, Reply};
+use wat_schema::Refusal;
 use wat_tables::{StoredTable, Tables};
-use wat_value::{Row, fits};
+use wat_value::{Act, Change, Row, fits};
 
 /// A row that fits the table with the number.
 #[derive(Drop)]
@@ -79,6 +83,85 @@ pub(crate) fn plain_row(
             columns: None,
             source: InsertSource::Values(exprs),
         } => plain_insert(alloc, tables, table, exprs.as_slice()),
+        _ => Ok(None),
+    }
+}
+
+// What inserting a row that fits the table means.
+fn row_inserted(alloc: Global, table: &StoredTable, row: Row) -> Result<Meaning, NoMemory>
+    ensures { IfOk result (λ m. m ≡ row_inserted table.now row) }
+{
+    let def = table.def();
+    let key = def.key_of(alloc, &row)?;
+    if table.has_key(&key) {
+        return Ok(refused(alloc, Refusal::Duplicate { key }));
+    }
+    let table = def.number;
+    let mut acts = Vec::with_capacity(alloc, 1)?;
+    acts.push(Act::OnRow(Change::Insert { table, row }))?;
+    Ok(Meaning {
+        answer: Reply::Inserted(1),
+        acts: Items::from_vec(acts),
+    })
+}
+
+fn meant_by_row(
+    alloc: Global,
+    table: &StoredTable,
+    plain: PlainRow,
+) -> Result<Option<Meaning>, NoMemory>
+    ensures { IfOk result (λ found. IfSome found (λ m. m ≡ row_inserted table.now plain.row)) }
+{
+    let PlainRow { table: _, row } = plain;
+    let meant = row_inserted(alloc, table, row)?;
+    Ok(Some(meant))
+}
+
+// What inserting the row that the expressions write means, where each is a literal and the row fits the table.
+fn written_meaning(
+    alloc: Global,
+    table: &StoredTable,
+    exprs: &[Expr],
+) -> Result<Option<Meaning>, NoMemory>
+    ensures { IfOk result (λ found. IfSome found (λ m. MeansRow table.now exprs.now m)) }
+{
+    let written = row_written(alloc, table, exprs)?;
+    match written {
+        Some(plain) => meant_by_row(alloc, table, plain),
+        None => Ok(None),
+    }
+}
+
+// What INSERT INTO the table with the name VALUES of these means, where the row is plain.
+fn insert_meaning(
+    alloc: Global,
+    tables: &Tables,
+    name: &Name,
+    exprs: &[Expr],
+) -> Result<Option<Meaning>, NoMemory>
+    ensures { IfOk result (λ found. IfSome found (λ m. m ≡ meaning tables.now (insert_of name.now exprs.now))) }
+{
+    tables.tables_law();
+    match tables.table(name.as_str()) {
+        Some(table) => written_meaning(alloc, table, exprs),
+        None => Ok(None),
+    }
+}
+
+/// What an INSERT of a plain row means, without its checks.
+pub(crate) fn plain_meaning(
+    alloc: Global,
+    statement: &Statement,
+    tables: &Tables,
+) -> Result<Option<Meaning>, NoMemory>
+    ensures { IfOk result (λ found. IfSome found (λ m. m ≡ meaning tables.now statement.now)) }
+{
+    match statement {
+        Statement::Insert {
+            table,
+            columns: None,
+            source: InsertSource::Values(exprs),
+        } => insert_meaning(alloc, tables, table, exprs.as_slice()),
         _ => Ok(None),
     }
 }
