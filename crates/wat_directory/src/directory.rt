@@ -1,10 +1,10 @@
-ghost use Rattle.std.specs.Prelude.{◌≡◌, ◌+◌, ◌↔◌, ◌<◌, ◌==◌, ◌++◌, ◌∷◌, [], ℕ, length, Some, None, true, is_some, if◌then◌else◌, remove, IfOk, IfSome, IfNone, IsSome, IsTrue, OnOk};
+ghost use Rattle.std.specs.Prelude.{◌≡◌, ◌+◌, ◌*◌, ◌↔◌, ◌<◌, ◌≤◌, ◌==◌, ◌++◌, ◌∷◌, [], ℕ, length, Some, None, true, is_some, if◌then◌else◌, remove, IfOk, IfSome, IfNone, IsSome, IsTrue, OnOk};
 ghost use Rattle.std.specs.List.{position};
 ghost use Rattle.wat_list.specs.Has.{Has};
 ghost use Rattle.wat_list.specs.Rising.{rising};
 ghost use Rattle.wat_value.specs.Order.{key_cmp};
 ghost use Rattle.wat_room.specs.Rooms.{AreRooms, IsLeastWith};
-ghost use Rattle.wat_rows.specs.Rows.{Row, name_is};
+ghost use Rattle.wat_rows.specs.Rows.{Row, RowMap, name_is};
 
 use crate::{Places, RowPage};
 use std::alloc::Global;
@@ -63,7 +63,7 @@ impl RowPage {
 }
 
 impl Directory {
-    ghost use Rattle.wat_directory.specs.Known.{page_at, place_at, room_at, room_left, names_in, row_pages, spot_at, IsLeastRoom, NoRoom};
+    ghost use Rattle.wat_directory.specs.Known.{page_at, place_at, room_at, room_left, names_in, row_pages, spot_at, used_bytes, IsLeastRoom, NoRoom, NoRoomFor};
     ghost use Rattle.wat_directory.specs.Steps.{SetsPage, SetsPlace, SamePlaces};
 
     /// A directory of no pages.
@@ -115,6 +115,15 @@ impl Directory {
             Some(row_page) => row_page.names.len() == 1,
             None => false,
         }
+    }
+
+    /// Where no row page has room for a row of at most 3,500 bytes, whose cell takes at most 3,506, the row pages have 501 bytes
+    /// of cells each, taken together. The call does nothing: it tells so.
+    pub fn pages_law(&self)
+        ensures { (rows : RowMap) (table : ℕ) (key : Row) (size : ℕ) → size ≤ 3506 → NoRoomFor self.now rows table key size → 501 * row_pages self.now ≤ used_bytes self.now }
+    {
+        // That the pages are kept by their numbers is known where they are counted.
+        let _count = self.pages.len();
     }
 
     /// The least page with room for so many bytes of cells.

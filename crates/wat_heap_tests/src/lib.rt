@@ -1,0 +1,7 @@
+//! Tests of rows on pages.
+#![tactic(auto)]
+
+mod directory;
+mod files;
+mod rooms;
+mod rows;
