@@ -1,0 +1,4 @@
+pub mod Chains
+pub mod Formed
+pub mod Pages
+pub mod Rows

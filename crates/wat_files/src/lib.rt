@@ -1,0 +1,7 @@
+//! Which three files are those of a database, what they stand for, and where a walk over them fails. Definitions and laws
+//! alone.
+#![tactic(auto)]
+
+mod laws;
+
+pub use laws::{start_law, walk_laws};

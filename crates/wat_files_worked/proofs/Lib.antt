@@ -1,0 +1,5 @@
+pub mod Agreeing
+pub mod Broken
+pub mod Headed
+pub mod Pages
+pub mod Whole

@@ -1,0 +1,6 @@
+pub mod Holding
+pub mod Inserting
+pub mod Opened
+pub mod Owned
+pub mod Owning
+pub mod Walked

@@ -1,0 +1,4 @@
+pub mod Calls
+pub mod Composing
+pub mod Keeping
+pub mod There

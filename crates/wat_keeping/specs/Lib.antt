@@ -1,0 +1,3 @@
+pub mod Durable
+pub mod Kept
+pub mod Steps
