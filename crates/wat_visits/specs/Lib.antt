@@ -1,0 +1,5 @@
+pub mod Asked
+pub mod Nesting
+pub mod Seeing
+pub mod Sourced
+pub mod Taking
