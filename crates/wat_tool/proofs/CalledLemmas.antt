@@ -1,14 +1,15 @@
 -- What the steps of a command come to.
-use Rattle.std.proofs.Common.{◌≡◌, ◌⊎◌, inl, inr, ⊎_elim, ℕ, ◌+◌, ◌≤◌, ◌<◌, ◌++◌, Bool, true, false, List, [], ◌∷◌, length, take, Option, None, Some, Result, Ok, Err, ℤ, refl, sym, ◌∙◌, ap, subst, arith, if◌then◌else◌}
+use Rattle.std.proofs.Common.{◌≡◌, ◌⊎◌, inl, inr, ⊎_elim, ℕ, ◌+◌, ◌≤◌, ◌<◌, ◌++◌, Bool, true, false, List, [], ◌∷◌, length, take, Option, None, Some, Result, Ok, Err, refl, sym, ◌∙◌, ap, subst, arith, if◌then◌else◌}
+use Rattle.wat_schema.specs.Tables.{Tables}
 use Rattle.std.proofs.lemmas.Bool.{cases_order, lt-ltb, le-ltb}
 use Rattle.std.specs.Prelude.{⊤, nat_lt}
 use Rattle.std.specs.Str.Lossy.{utf8_valid_len}
 use Rattle.wat_faults.specs.Faults.{Rose, counted}
 use Rattle.wat_io.specs.Scripts.{Texts}
-use Rattle.wat_rowlog.specs.Logged.{Restarts}
-use Rattle.wat_rowlog.specs.Opening.{MayOpen}
-use Rattle.wat_rowlog.specs.declared.opening.OpenWhy.{OpenWhy}
-use Rattle.wat_rowlog.specs.declared.opening.OpenWhy.TheVariants as why
+use Rattle.wat_commit_log.specs.Logged.{Restarts}
+use Rattle.wat_commit_log.specs.Opening.{MayOpen}
+use Rattle.wat_commit_log.specs.declared.opening.OpenWhy.{OpenWhy}
+use Rattle.wat_commit_log.specs.declared.opening.OpenWhy.TheVariants as why
 use Rattle.wat_words.specs.Commands.{alone, command_of, names_of, run_of}
 use Rattle.wat_words.specs.declared.Command.{Command}
 use Rattle.wat_words.specs.declared.Command.TheVariants.{Init, Run}
@@ -18,7 +19,7 @@ use Rattle.wat_begin.specs.declared.fault.Fault.{Fault}
 use Rattle.wat_begin.specs.declared.fault.Fault.TheVariants.{Usage, CannotRead, TooLong, NotText, NoDatabase, Exists, Damaged, DiskFault, Memory}
 use Rattle.wat_tool.specs.Called.{opened}
 use Rattle.wat_tool.specs.Ending.{IsBeforeDisk}
-use Rattle.wat_tool.specs.Steps.{IsOneText}
+use Rattle.wat_session.specs.Session.{IsOneScript}
 
 is_run : (dashed init run : Bool) (x y : Option Command) → (if dashed then None else if init then x else if run then y else None) ≡ Some Run → (x ≡ Some Run → ⊥) → y ≡ Some Run
 is_run true init run x y is other = cc
@@ -60,7 +61,7 @@ script_of-short i (Holds held) text is =
 script_of-short i Missing text is = cc
 script_of-short i Failing text is = cc
 
-one_reading : (told : Option Texts) (before now : ℕ) (name : List ℕ) (rs : List Reading) (texts : List (List ℕ)) → AreReadings told before now (name ∷ []) rs → Ok texts ≡ scripts_of 1 rs → IsOneText texts
+one_reading : (told : Option Texts) (before now : ℕ) (name : List ℕ) (rs : List Reading) (texts : List (List ℕ)) → AreReadings told before now (name ∷ []) rs → Ok texts ≡ scripts_of 1 rs → IsOneScript texts
 one_reading told before now name [] texts are is = absurd are
 one_reading told before now name (r ∷ []) texts are is =
     let found = text_or (script_of 1 r) texts (sym is) in
@@ -69,30 +70,30 @@ one_reading told before now name (r ∷ other ∷ rs) texts are is = absurd are.
 
 -- The scripts that run reads are one text.
 pub one_script : (told : Option Texts) (before now : ℕ) (words : List (List ℕ)) (rs : List Reading) (texts : List (List ℕ)) →
-    command_of words ≡ Some Run → AreReadings told before now (names_of Run words) rs → Ok texts ≡ scripts_of 1 rs → IsOneText texts
+    command_of words ≡ Some Run → AreReadings told before now (names_of Run words) rs → Ok texts ≡ scripts_of 1 rs → IsOneScript texts
 one_script told before now words rs texts command are is =
     let name = one_name words command in
     one_reading told before now name.0 rs texts (subst (λ (names : List (List ℕ)). AreReadings told before now names rs) name.1 are) is
 
 -- Opening may still answer so when the count of faults has risen further.
-pub MayOpen-later : (tells : Type 0) (content : List ℕ) (rose rose' : Type 0) (opening : Result (List (ℤ × ℤ)) OpenWhy) → (rose → rose') → MayOpen tells content rose opening → MayOpen tells content rose' opening
-MayOpen-later tells content rose rose' (Ok rows) further may = may
+pub MayOpen-later : (tells : Type 0) (content : List ℕ) (rose rose' : Type 0) (opening : Result Tables OpenWhy) → (rose → rose') → MayOpen tells content rose opening → MayOpen tells content rose' opening
+MayOpen-later tells content rose rose' (Ok tables) further may = may
 MayOpen-later tells content rose rose' (Err why.NoDatabase) further may = may
 MayOpen-later tells content rose rose' (Err (why.Damaged at)) further may = may
 MayOpen-later tells content rose rose' (Err why.DiskFault) further may = further may
 MayOpen-later tells content rose rose' (Err why.Memory) further may = may
 
--- restart gives the rows of what was opened
-pub opened_rows : (tells : Type 0) (content : List ℕ) (rose : Type 0) (opening : Result (List (ℤ × ℤ)) OpenWhy) (rows : List (ℤ × ℤ)) → Ok rows ≡ opened opening → MayOpen tells content rose opening → tells → Restarts content rows
-opened_rows tells content rose (Ok found) rows is may told = let same : found ≡ rows = cc in subst (Restarts content) same (may told)
-opened_rows tells content rose (Err why.NoDatabase) rows is may told = cc
-opened_rows tells content rose (Err (why.Damaged at)) rows is may told = cc
-opened_rows tells content rose (Err why.DiskFault) rows is may told = cc
-opened_rows tells content rose (Err why.Memory) rows is may told = cc
+-- restart gives the tables of what was opened
+pub opened_tables : (tells : Type 0) (content : List ℕ) (rose : Type 0) (opening : Result Tables OpenWhy) (tables : Tables) → Ok tables ≡ opened opening → MayOpen tells content rose opening → tells → Restarts content tables
+opened_tables tells content rose (Ok found) tables is may told = let same : found ≡ tables = cc in subst (Restarts content) same (may told)
+opened_tables tells content rose (Err why.NoDatabase) tables is may told = cc
+opened_tables tells content rose (Err (why.Damaged at)) tables is may told = cc
+opened_tables tells content rose (Err why.DiskFault) tables is may told = cc
+opened_tables tells content rose (Err why.Memory) tables is may told = cc
 
 -- no fault of the opening is one of the words or the scripts
-pub opened_on_disk : (opening : Result (List (ℤ × ℤ)) OpenWhy) (fault : Fault) → Err fault ≡ opened opening → IsBeforeDisk fault → ⊥
-opened_on_disk (Ok rows) fault is early = cc
+pub opened_on_disk : (opening : Result Tables OpenWhy) (fault : Fault) → Err fault ≡ opened opening → IsBeforeDisk fault → ⊥
+opened_on_disk (Ok tables) fault is early = cc
 opened_on_disk (Err why.NoDatabase) fault is early = let same : fault ≡ NoDatabase = cc in subst IsBeforeDisk same early
 opened_on_disk (Err (why.Damaged at)) fault is early = let same : fault ≡ Damaged at = cc in subst IsBeforeDisk same early
 opened_on_disk (Err why.DiskFault) fault is early = let same : fault ≡ DiskFault = cc in subst IsBeforeDisk same early

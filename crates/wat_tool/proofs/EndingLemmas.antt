@@ -1,10 +1,11 @@
 -- How a call ends, step by step.
-use Rattle.std.proofs.Common.{◌≡◌, ◌⊎◌, inl, inr, ℕ, ◌≤◌, List, [], ◌∷◌, ◌++◌, take, Result, Ok, Err, Option, None, Some, ℤ, refl, sym, subst, arith, append-nil, OnErr, IfErr}
+use Rattle.std.proofs.Common.{◌≡◌, ◌⊎◌, inl, inr, ℕ, ◌≤◌, List, [], ◌∷◌, ◌++◌, take, Result, Ok, Err, Option, None, Some, refl, sym, subst, arith, append-nil, OnErr, IfErr}
+use Rattle.wat_schema.specs.Tables.{Tables}
 use Rattle.wat_disk.specs.Disk.{Told}
 use Rattle.wat_faults.specs.Faults.{Rose}
-use Rattle.wat_rowlog.specs.Opening.{MayOpen}
-use Rattle.wat_rowlog.specs.Logged.{log_file}
-use Rattle.wat_rowlog.specs.declared.opening.OpenWhy.{OpenWhy}
+use Rattle.wat_commit_log.specs.Opening.{MayOpen}
+use Rattle.wat_commit_log.specs.Logged.{log_file}
+use Rattle.wat_commit_log.specs.declared.opening.OpenWhy.{OpenWhy}
 use Rattle.wat_begin.specs.Faults.{UnlessMemory}
 use Rattle.wat_begin.specs.Readings.{Reading, AreReadings, names_asked, scripts_of}
 use Rattle.wat_begin.specs.declared.fault.Fault.{Fault}
@@ -67,12 +68,12 @@ run_ends outside names answer ended asked read ends = record {
 }
 
 -- what opening answered, and what came of it
-pub opened_ends : (outside : Outside) (texts : List (List ℕ)) (opening : Result (List (ℤ × ℤ)) OpenWhy) (answer : Result (List (ℤ × ℤ)) Fault) (ended : Result Done Fault) →
+pub opened_ends : (outside : Outside) (texts : List (List ℕ)) (opening : Result Tables OpenWhy) (answer : Result Tables Fault) (ended : Result Done Fault) →
     MayOpen outside.tells (outside.disk_before.content log_file) (Rose outside.disk_before.faults outside.disk.faults) opening → answer ≡ opened opening → EndsPlayed outside texts answer ended → EndsOpened outside texts ended
 opened_ends outside texts opening answer ended may is ends = record {
   opening = opening;
   may_open = may;
-  is = subst (λ (r : Result (List (ℤ × ℤ)) Fault). EndsPlayed outside texts r ended) is ends;
+  is = subst (λ (r : Result Tables Fault). EndsPlayed outside texts r ended) is ends;
 }
 
 -- the count of faults has risen since an earlier moment too

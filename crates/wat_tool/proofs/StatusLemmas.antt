@@ -1,20 +1,21 @@
 -- The status of an end.
-use Rattle.std.proofs.Common.{◌≡◌, ◌⊎◌, inl, inr, ⊎_elim, ℕ, ◌+◌, ◌-◌, ◌^◌, ◌≤◌, ◌<◌, min, Bool, true, false, List, [], ◌∷◌, length, take, Option, None, Some, Result, Ok, Err, ℤ, refl, sym, ◌∙◌, ap, subst, arith}
+use Rattle.std.proofs.Common.{◌≡◌, ◌⊎◌, inl, inr, ⊎_elim, ℕ, ◌+◌, ◌-◌, ◌^◌, ◌≤◌, ◌<◌, min, Bool, true, false, List, [], ◌∷◌, length, take, Option, None, Some, Result, Ok, Err, refl, sym, ◌∙◌, ap, subst, arith}
+use Rattle.wat_schema.specs.Tables.{Tables}
 use Rattle.std.proofs.lemmas.List.Elements.{All-head, All-tail, All-take}
-use Rattle.std.specs.Prelude.{⊤, All, unwrap_or}
+use Rattle.std.specs.Prelude.{⊤, All, IfSome, unwrap_or}
 use Rattle.std.specs.Option.{option_map}
 use Rattle.wat_faults.specs.Faults.{Rose, counted}
 use Rattle.wat_io.specs.Scripts.{Texts}
-use Rattle.wat_rowlog.specs.Logged.{log_file, Restarts}
-use Rattle.wat_rowlog.specs.Making.{MayMake}
-use Rattle.wat_rowlog.specs.Opening.{MayOpen}
-use Rattle.wat_rowlog.specs.declared.making.InitRefusal.{InitRefusal}
-use Rattle.wat_rowlog.specs.declared.making.InitRefusal.TheVariants as refusal
-use Rattle.wat_rowlog.specs.declared.opening.OpenWhy.{OpenWhy}
-use Rattle.wat_rowlog.specs.declared.opening.OpenWhy.TheVariants as why
-use Rattle.wat_onetable_session.specs.declared.session.Session.{Session}
-use Rattle.wat_onetable_session.specs.declared.answer.Reason.{Reason}
-use Rattle.wat_onetable_session.specs.declared.answer.Reason.TheVariants as reason
+use Rattle.wat_commit_log.specs.Logged.{log_file, Restarts}
+use Rattle.wat_commit_log.specs.Making.{MayMake}
+use Rattle.wat_commit_log.specs.Opening.{MayOpen}
+use Rattle.wat_commit_log.specs.declared.making.InitRefusal.{InitRefusal}
+use Rattle.wat_commit_log.specs.declared.making.InitRefusal.TheVariants as refusal
+use Rattle.wat_commit_log.specs.declared.opening.OpenWhy.{OpenWhy}
+use Rattle.wat_commit_log.specs.declared.opening.OpenWhy.TheVariants as why
+use Rattle.wat_conn.specs.declared.session.Session.{Session}
+use Rattle.wat_conn.specs.declared.answer.Reason.{Reason}
+use Rattle.wat_conn.specs.declared.answer.Reason.TheVariants as reason
 use Rattle.wat_words.specs.Commands.{command_of, names_of}
 use Rattle.wat_words.specs.declared.Command.{Command}
 use Rattle.wat_words.specs.declared.Command.TheVariants.{Init, Run}
@@ -23,6 +24,7 @@ use Rattle.wat_begin.specs.Readings.{Reading, Holds, Missing, Failing, AreReadin
 use Rattle.wat_begin.specs.declared.fault.Fault.{Fault}
 use Rattle.wat_begin.specs.declared.fault.Fault.TheVariants.{Usage, CannotRead, TooLong, NotText, NoDatabase, Exists, Damaged, DiskFault, Memory}
 use Rattle.wat_begin.proofs.ReadingLemmas.{is_text}
+use Rattle.wat_session.specs.Saving.{MayStop}
 use Rattle.wat_tool.specs.Called.{made, opened, names_called}
 use Rattle.wat_tool.specs.declared.performing.Done.{Done}
 use Rattle.wat_tool.specs.declared.performing.Done.TheVariants.{Made, Played}
@@ -44,6 +46,8 @@ usage_status Memory is = absurd (omega (arith, is))
 
 no_usage_session : (stop : Option Reason) (found whole : Bool) → session_status stop found whole ≡ 1 → ⊥
 no_usage_session (Some reason.DiskFault) found whole is = omega (arith, is)
+no_usage_session (Some (reason.Damaged file at)) found whole is = omega (arith, is)
+no_usage_session (Some (reason.PageLimit count limit)) found whole is = omega (arith, is)
 no_usage_session (Some reason.Memory) found whole is = omega (arith, is)
 no_usage_session None false whole is = omega (arith, is)
 no_usage_session None true false is = omega (arith, is)
@@ -55,8 +59,8 @@ no_usage_made outside (Err refusal.Exists) is = cc
 no_usage_made outside (Err refusal.DiskFault) is = cc
 no_usage_made outside (Err refusal.Memory) is = cc
 
-no_usage_opened : (outside : Outside) (texts : List (List ℕ)) (opening : Result (List (ℤ × ℤ)) OpenWhy) → EndsPlayed outside texts (opened opening) (Err Usage) → ⊥
-no_usage_opened outside texts (Ok rows) is = is
+no_usage_opened : (outside : Outside) (texts : List (List ℕ)) (opening : Result Tables OpenWhy) → EndsPlayed outside texts (opened opening) (Err Usage) → ⊥
+no_usage_opened outside texts (Ok tables) is = is
 no_usage_opened outside texts (Err why.NoDatabase) is = cc
 no_usage_opened outside texts (Err (why.Damaged at)) is = cc
 no_usage_opened outside texts (Err why.DiskFault) is = cc
@@ -158,12 +162,14 @@ wants_memory : (ended : Result Done Fault) (found whole : Bool) → ended ≡ Er
 unfolding EndsWell
 wants_memory ended found whole is = inr (ap (λ (e : Result Done Fault). status_of e found whole) is)
 
-calm_status : (stop : Option Reason) (found whole : Bool) → (stop ≡ Some reason.DiskFault → ⊥) → (whole ≡ false → ⊥) → (session_status stop found whole ≡ 0) ⊎ (session_status stop found whole ≡ 7)
-calm_status (Some reason.DiskFault) found whole disk sink = absurd (disk refl)
-calm_status (Some reason.Memory) found whole disk sink = inr refl
-calm_status None false whole disk sink = inr refl
-calm_status None true false disk sink = absurd (sink refl)
-calm_status None true true disk sink = inl refl
+calm_status : (stop : Option Reason) (found whole : Bool) → IfSome stop MayStop → (stop ≡ Some reason.DiskFault → ⊥) → (whole ≡ false → ⊥) → (session_status stop found whole ≡ 0) ⊎ (session_status stop found whole ≡ 7)
+calm_status (Some reason.DiskFault) found whole may disk sink = absurd (disk refl)
+calm_status (Some (reason.Damaged file at)) found whole may disk sink = absurd (⊎_elim (λ e. cc) (λ e. cc) may)
+calm_status (Some (reason.PageLimit count limit)) found whole may disk sink = absurd (⊎_elim (λ e. cc) (λ e. cc) may)
+calm_status (Some reason.Memory) found whole may disk sink = inr refl
+calm_status None false whole may disk sink = inr refl
+calm_status None true false may disk sink = absurd (sink refl)
+calm_status None true true may disk sink = inl refl
 
 init_well : (outside : Outside) (making : Result ⊤ InitRefusal) (ended : Result Done Fault) (found whole : Bool) → outside.tells → outside.disk_before.content log_file ≡ [] → ¬ Rose outside.disk_before.faults outside.disk.faults →
     MayMake outside.tells (outside.disk_before.content log_file) (Rose outside.disk_before.faults outside.disk.faults) making → EndsMade outside (made making) ended → EndsWell ended found whole
@@ -173,26 +179,26 @@ init_well outside (Err refusal.Exists) ended found whole told empty calm may end
 init_well outside (Err refusal.DiskFault) ended found whole told empty calm may ends = absurd (calm may)
 init_well outside (Err refusal.Memory) ended found whole told empty calm may ends = wants_memory ended found whole ends
 
-played_well : (outside : Outside) (texts : List (List ℕ)) (rows : List (ℤ × ℤ)) (ended : Result Done Fault) (found whole : Bool) → ¬ Rose outside.disk_before.faults outside.disk.faults → (whole ≡ false → ⊥) →
-    EndsPlayed outside texts (Ok rows) ended → EndsWell ended found whole
+played_well : (outside : Outside) (texts : List (List ℕ)) (tables : Tables) (ended : Result Done Fault) (found whole : Bool) → ¬ Rose outside.disk_before.faults outside.disk.faults → (whole ≡ false → ⊥) →
+    EndsPlayed outside texts (Ok tables) ended → EndsWell ended found whole
 unfolding EndsWell
-played_well outside texts rows (Ok Made) found whole calm sink ends = absurd ends
-played_well outside texts rows (Ok (Played session)) found whole calm sink ends = calm_status session.stop found whole (λ stop. calm (ends.is.leaves.disk_fault stop)) sink
-played_well outside texts rows (Err fault) found whole calm sink ends = absurd ends
+played_well outside texts tables (Ok Made) found whole calm sink ends = absurd ends
+played_well outside texts tables (Ok (Played session)) found whole calm sink ends = calm_status session.stop found whole ends.is.leaves.reason (λ stop. calm (ends.is.leaves.disk_fault stop)) sink
+played_well outside texts tables (Err fault) found whole calm sink ends = absurd ends
 
-opened_well : (outside : Outside) (texts : List (List ℕ)) (opening : Result (List (ℤ × ℤ)) OpenWhy) (ended : Result Done Fault) (found whole : Bool) (rows : List (ℤ × ℤ)) → outside.tells →
-    Restarts (outside.disk_before.content log_file) rows → ¬ Rose outside.disk_before.faults outside.disk.faults → (whole ≡ false → ⊥) →
+opened_well : (outside : Outside) (texts : List (List ℕ)) (opening : Result Tables OpenWhy) (ended : Result Done Fault) (found whole : Bool) (tables : Tables) → outside.tells →
+    Restarts (outside.disk_before.content log_file) tables → ¬ Rose outside.disk_before.faults outside.disk.faults → (whole ≡ false → ⊥) →
     MayOpen outside.tells (outside.disk_before.content log_file) (Rose outside.disk_before.faults outside.disk.faults) opening → EndsPlayed outside texts (opened opening) ended → EndsWell ended found whole
-opened_well outside texts (Ok found_rows) ended found whole rows told restarts calm sink may ends = played_well outside texts found_rows ended found whole calm sink ends
-opened_well outside texts (Err why.NoDatabase) ended found whole rows told restarts calm sink may ends = absurd (omega (arith, restarts.logged.whole.there, ap length (may told)))
-opened_well outside texts (Err (why.Damaged at)) ended found whole rows told restarts calm sink may ends = absurd ((may told).none rows restarts)
-opened_well outside texts (Err why.DiskFault) ended found whole rows told restarts calm sink may ends = absurd (calm may)
-opened_well outside texts (Err why.Memory) ended found whole rows told restarts calm sink may ends = wants_memory ended found whole ends
+opened_well outside texts (Ok found_tables) ended found whole tables told restarts calm sink may ends = played_well outside texts found_tables ended found whole calm sink ends
+opened_well outside texts (Err why.NoDatabase) ended found whole tables told restarts calm sink may ends = absurd (omega (arith, restarts.logged.whole.there, ap length (may told)))
+opened_well outside texts (Err (why.Damaged at)) ended found whole tables told restarts calm sink may ends = absurd ((may told).none tables restarts)
+opened_well outside texts (Err why.DiskFault) ended found whole tables told restarts calm sink may ends = absurd (calm may)
+opened_well outside texts (Err why.Memory) ended found whole tables told restarts calm sink may ends = wants_memory ended found whole ends
 
-read_well : (outside : Outside) (answer : Result (List (List ℕ)) Fault) (texts : List (List ℕ)) (ended : Result Done Fault) (found whole : Bool) (rows : List (ℤ × ℤ)) → answer ≡ Ok texts → outside.tells →
-    Restarts (outside.disk_before.content log_file) rows → ¬ Rose outside.disk_before.faults outside.disk.faults → (whole ≡ false → ⊥) → EndsRead outside answer ended → EndsWell ended found whole
-read_well outside (Ok found_texts) texts ended found whole rows read told restarts calm sink ends = opened_well outside found_texts ends.opening ended found whole rows told restarts calm sink ends.may_open ends.is
-read_well outside (Err fault) texts ended found whole rows read told restarts calm sink ends = cc
+read_well : (outside : Outside) (answer : Result (List (List ℕ)) Fault) (texts : List (List ℕ)) (ended : Result Done Fault) (found whole : Bool) (tables : Tables) → answer ≡ Ok texts → outside.tells →
+    Restarts (outside.disk_before.content log_file) tables → ¬ Rose outside.disk_before.faults outside.disk.faults → (whole ≡ false → ⊥) → EndsRead outside answer ended → EndsWell ended found whole
+read_well outside (Ok found_texts) texts ended found whole tables read told restarts calm sink ends = opened_well outside found_texts ends.opening ended found whole tables told restarts calm sink ends.may_open ends.is
+read_well outside (Err fault) texts ended found whole tables read told restarts calm sink ends = cc
 
 by_well : (outside : Outside) (words : List (List ℕ)) (command : Command) (ended : Result Done Fault) (found whole : Bool) (texts : Texts) → outside.texts ≡ Some texts → All (HasText texts) (names_of command words) → outside.tells →
     Serves command (outside.disk_before.content log_file) → ¬ Rose outside.script_faults_before outside.script_faults → ¬ Rose outside.disk_before.faults outside.disk.faults → (whole ≡ false → ⊥) →

@@ -4,7 +4,7 @@ use Rattle.wat_disk.specs.Bytes.{Torn}
 use Rattle.wat_disk.specs.Disk.{Told, InFile}
 use Rattle.wat_disk.proofs.Writes.{torn_same}
 use Rattle.wat_disk.proofs.Stops.{stays, none_same, both_same}
-use Rattle.wat_rowlog.specs.Logged.{log_file}
+use Rattle.wat_commit_log.specs.Logged.{log_file}
 use Rattle.wat_tool.specs.Ending.{IsUntouched, ChangesFirstByte}
 
 -- before the first call

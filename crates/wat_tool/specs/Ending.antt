@@ -1,22 +1,22 @@
 -- How a call ends: what the outside answered, step by step, and what the call leaves. The causes stand in their order: the words,
 -- for `run` the scripts in order and opening the log, for `init` making the log.
-use Rattle.std.specs.Prelude.{⊤, ◌≡◌, ◌≢◌, ◌≤◌, ◌+◌, ◌-◌, ◌*◌, ◌^◌, ℕ, min, length, take, List, [], ◌∷◌, ◌++◌, Option, None, Some, Result, Ok, Err, ℤ, All}
+use Rattle.std.specs.Prelude.{⊤, ◌≡◌, ◌≢◌, ◌≤◌, ◌+◌, ◌-◌, ◌*◌, ◌^◌, ℕ, min, length, take, List, [], ◌∷◌, ◌++◌, Option, None, Some, Result, Ok, Err, All}
+use Rattle.wat_schema.specs.Tables.{Tables, no_tables}
 use Rattle.std.specs.Str.Lossy.{utf8_valid_len}
 use Rattle.wat_faults.specs.Faults.{Rose}
-use Rattle.wat_list.specs.Reservation.{Reservation}
 use Rattle.wat_io.specs.Scripts.{Texts}
 use Rattle.wat_disk.specs.Bytes.{Torn}
 use Rattle.wat_disk.specs.Disk.{Told, SameFiles, SameOthers, EachStop, EachLeft, InFile}
 use Rattle.wat_gate.specs.Bodies.{bodies}
-use Rattle.wat_onetable_session.specs.declared.session.Entry.{Entry}
-use Rattle.wat_onetable_session.specs.declared.session.Session.{Session}
-use Rattle.wat_onetable_session.specs.declared.answer.Reason.TheVariants.{DiskFault}
-use Rattle.wat_rowlog.specs.Logged.{log_file, Restarts}
-use Rattle.wat_rowlog.specs.Making.{MayMake}
-use Rattle.wat_rowlog.specs.Opening.{MayOpen}
-use Rattle.wat_rowlog.specs.declared.making.InitRefusal.{InitRefusal}
-use Rattle.wat_rowlog.specs.declared.opening.OpenWhy.{OpenWhy}
-use Rattle.wat_play.specs.Session.{IsSession}
+use Rattle.wat_conn.specs.declared.session.Session.{Session}
+use Rattle.wat_conn.specs.declared.answer.Reason.TheVariants.{DiskFault}
+use Rattle.wat_commit_log.specs.Logged.{log_file, Restarts}
+use Rattle.wat_commit_log.specs.Making.{MayMake}
+use Rattle.wat_commit_log.specs.Opening.{MayOpen}
+use Rattle.wat_commit_log.specs.declared.making.InitRefusal.{InitRefusal}
+use Rattle.wat_commit_log.specs.declared.opening.OpenWhy.{OpenWhy}
+use Rattle.wat_session.specs.Session.{IsSession, Setting}
+use Rattle.wat_one_history.specs.OneHistory.{IsOneHistory}
 use Rattle.wat_words.specs.Commands.{command_of, names_of}
 use Rattle.wat_words.specs.declared.Command.{Command}
 use Rattle.wat_words.specs.declared.Command.TheVariants.{Init, Run}
@@ -40,10 +40,10 @@ pub record Outside : Type 1 where
   pub disk_before : Told
   pub disk : Told
 
--- The log was made: it is one closed gate, and whatever a stop then leaves restarts without rows.
+-- The log was made: it is one closed gate, and whatever a stop then leaves restarts without tables.
 pub record IsMade (tells : Type 0) (now : Told) : Type 0 where
   pub content : tells → now.content log_file ≡ 0 ∷ []
-  pub kept : tells → EachLeft now now.moment now.moment (λ image. Restarts (image log_file) [])
+  pub kept : tells → EachLeft now now.moment now.moment (λ image. Restarts (image log_file) no_tables)
 
 -- a database was made
 abbrev pub EndsMade : Outside → Result ⊤ Fault → Result Done Fault → Type 0
@@ -56,25 +56,31 @@ pub record EndsInit (outside : Outside) (ended : Result Done Fault) : Type 0 whe
   pub may_make : MayMake outside.tells (outside.disk_before.content log_file) (Rose outside.disk_before.faults outside.disk.faults) making
   pub is : EndsMade outside (made making) ended
 
--- The session of one script over the rows of the log, from the disk as it was before to the disk now.
-pub record IsSessionOf (outside : Outside) (texts : List (List ℕ)) (rows : List (ℤ × ℤ)) (session : Session) : Type 0 where
-  pub scripts : session.scripts ≡ texts
-  pub text : List ℕ
-  pub one_text : texts ≡ text ∷ []
-  pub transcript : Reservation Entry
-  pub one_transcript : session.transcripts ≡ transcript ∷ []
+-- A session over these tables of the log, from the disk as it was before to the disk now; opening the log had so many frames to read.
+abbrev pub over : Outside → Tables → ℕ → Setting
+over outside tables frames = record {
+  tells = outside.tells;
+  entry = outside.disk_before;
+  now = outside.disk;
+  start = min (outside.disk_before.moment + (6 * frames + 3)) (2 ^ 64 - 1);
+  file = log_file;
+  base = tables;
+}
+
+-- The session of these scripts over the tables of the log: each statement has its turn, and all are one history.
+pub record IsSessionOf (outside : Outside) (texts : List (List ℕ)) (tables : Tables) (session : Session) : Type 0 where
   -- opening the log made three calls on the disk, and six more for each of its frames
   pub frames : ℕ
   pub counted : outside.tells → frames ≡ length (bodies (outside.disk_before.content log_file))
-  pub is : IsSession (record {
-    tells = outside.tells;
-    entry = outside.disk_before;
-    now = outside.disk;
-    start = min (outside.disk_before.moment + (6 * frames + 3)) (2 ^ 64 - 1);
-    file = log_file;
-    rows = rows;
-    text = text;
-  }) transcript.items session.stop session.moments.items
+  pub is : IsSession (over outside tables frames) texts session
+  pub one : IsOneHistory (over outside tables frames) session
+
+-- The session is one serial history over the tables that restart gave before, and a stop leaves a beginning of it.
+pub record HasOneHistory (outside : Outside) (session : Session) : Type 0 where
+  pub base : Tables
+  pub restarts : outside.tells → Restarts (outside.disk_before.content log_file) base
+  pub frames : ℕ
+  pub one : IsOneHistory (over outside base frames) session
 
 -- a session was played, and it has P
 abbrev pub IsPlayed : Result Done Fault → (Session → Type 0) → Type 0
@@ -82,14 +88,14 @@ IsPlayed (Ok (Played session)) P = P session
 IsPlayed (Ok Made) P = ⊥
 IsPlayed (Err fault) P = ⊥
 
--- these scripts were played over the rows of the log
-abbrev pub EndsPlayed : Outside → List (List ℕ) → Result (List (ℤ × ℤ)) Fault → Result Done Fault → Type 0
+-- these scripts were played over the tables of the log
+abbrev pub EndsPlayed : Outside → List (List ℕ) → Result Tables Fault → Result Done Fault → Type 0
 EndsPlayed outside texts (Err fault) ended = ended ≡ Err fault
-EndsPlayed outside texts (Ok rows) ended = IsPlayed ended (IsSessionOf outside texts rows)
+EndsPlayed outside texts (Ok tables) ended = IsPlayed ended (IsSessionOf outside texts tables)
 
 -- These scripts were read, opening the log answered in some way that it may, and the call ended by that.
 pub record EndsOpened (outside : Outside) (texts : List (List ℕ)) (ended : Result Done Fault) : Type 0 where
-  pub opening : Result (List (ℤ × ℤ)) OpenWhy
+  pub opening : Result Tables OpenWhy
   pub may_open : MayOpen outside.tells (outside.disk_before.content log_file) (Rose outside.disk_before.faults outside.disk.faults) opening
   pub is : EndsPlayed outside texts (opened opening) ended
 
@@ -179,7 +185,7 @@ pub record HasText (texts : Texts) (name : List ℕ) : Type 0 where
 -- The log is as the command needs it: empty for `init`, and one that restart reads for `run`.
 abbrev pub Serves : Command → List ℕ → Type 0
 Serves Init log = log ≡ []
-Serves Run log = (rows : List (ℤ × ℤ)) × Restarts log rows
+Serves Run log = (tables : Tables) × Restarts log tables
 
 -- The words are a command, its scripts are texts, the log is as it needs it, and neither scripts nor disk failed.
 pub record IsWell (outside : Outside) (words : List (List ℕ)) : Type 0 where

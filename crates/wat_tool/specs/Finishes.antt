@@ -1,13 +1,13 @@
 -- What a call of the program leaves.
 use Rattle.std.specs.Prelude.{◌≡◌, ◌≢◌, ◌⊎◌, ℕ, List, None, Some, Ok, Result, Option, IfErr}
 use Rattle.wat_faults.specs.Faults.{Rose}
-use Rattle.wat_onetable_session.specs.declared.session.Session.{Session}
+use Rattle.wat_conn.specs.declared.session.Session.{Session}
 use Rattle.wat_words.specs.Commands.{command_of}
 use Rattle.wat_words.specs.declared.Command.{Command}
 use Rattle.wat_words.specs.declared.Command.TheVariants.{Init, Run}
 use Rattle.wat_begin.specs.declared.fault.Fault.{Fault}
 use Rattle.wat_tool.specs.Called.{names_called}
-use Rattle.wat_tool.specs.Ending.{Outside, AsksFirst, ChangesFirstByte, Ends, IsNoSession, IsWell, LeavesUntouched, ended}
+use Rattle.wat_tool.specs.Ending.{Outside, AsksFirst, ChangesFirstByte, Ends, HasOneHistory, IsNoSession, IsWell, LeavesUntouched, ended}
 use Rattle.wat_tool.specs.Reporting.{Output, Reports}
 
 -- A call of these words ends so: with this status, what was done or why nothing was, and the session.
@@ -16,6 +16,9 @@ pub record Finishes (outside : Outside) (output : Output) (words : List (List �
   pub ends : Ends outside words (ended outcome session)
   pub asks : AsksFirst (names_called words) outside.asked_before outside.asked
   pub nothing_asked : outcome ≢ Ok Run → IsNoSession session
+  -- The session of `run` has one history, in which each statement, whatever its level, is answered by what it means over the tables that those
+  -- before it leave, from those that restart gave before the call.
+  pub history : outcome ≡ Ok Run → HasOneHistory outside session
   -- A fault leaves all as it was, but for one of the disk in `init`, which at most writes the first byte of the log.
   pub untouched : IfErr outcome (LeavesUntouched words outside.disk_before outside.disk)
   pub init : command_of words ≡ Some Init → ChangesFirstByte outside.disk_before outside.disk

@@ -2,10 +2,10 @@
 use Rattle.std.specs.Prelude.{◌≡◌, ℕ, Bool, true, false, List, [], ◌++◌, codes, decimal, Option, None, Some, Result, Ok, Err}
 use Rattle.wat_faults.specs.Faults.{Rose}
 use Rattle.wat_io.specs.Sink.{Sends}
-use Rattle.wat_onetable_session.specs.declared.session.Session.{Session}
-use Rattle.wat_onetable_session.specs.declared.answer.Reason.{Reason}
-use Rattle.wat_onetable_session.specs.declared.answer.Reason.TheVariants as reason
-use Rattle.wat_onetable_print.specs.Printed.{printed}
+use Rattle.wat_conn.specs.declared.session.Session.{Session}
+use Rattle.wat_conn.specs.declared.answer.Reason.{Reason}
+use Rattle.wat_conn.specs.declared.answer.Reason.TheVariants as reason
+use Rattle.wat_print.specs.Printed.{printed}
 use Rattle.wat_begin.specs.declared.fault.Fault.{Fault}
 use Rattle.wat_begin.specs.declared.fault.Fault.TheVariants.{Usage, CannotRead, TooLong, NotText, NoDatabase, Exists, Damaged, DiskFault, Memory}
 use Rattle.wat_tool.specs.declared.performing.Done.{Done}
@@ -35,7 +35,9 @@ fault_status DiskFault = 4
 fault_status Memory = 7
 
 abbrev pub reason_status : Reason → ℕ
+reason_status (reason.Damaged file at) = 3
 reason_status reason.DiskFault = 4
+reason_status (reason.PageLimit count limit) = 6
 reason_status reason.Memory = 7
 
 -- what is written: nothing of a database that was made, and want of memory where printing the session finds none

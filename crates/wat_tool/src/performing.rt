@@ -1,26 +1,26 @@
-ghost use Rattle.std.specs.Prelude.{⊤, ◌≡◌, ◌≢◌, ◌≤◌, ◌⊎◌, ◌+◌, ◌*◌, ℕ, List, ℤ, None, Some, Err, map, string_bytes, Result, IfOk, IfErr, OnOk, OnErr, IsOkUnless};
+ghost use Rattle.std.specs.Prelude.{⊤, ◌≡◌, ◌≢◌, ◌≤◌, ◌⊎◌, ◌+◌, ◌*◌, ℕ, None, Some, Err, map, string_bytes, Result, IfOk, IfErr, OnOk, OnErr, IsOkUnless};
+ghost use Rattle.wat_schema.specs.Tables.{IsTables, Tables};
 ghost use Rattle.wat_disk.specs.Disk.{MakesCalls};
 ghost use Rattle.wat_faults.specs.Faults.{HasCause, Rose};
 ghost use Rattle.wat_gate.specs.GateLog.{file_of, frames_of};
-ghost use Rattle.wat_rowlog.specs.Logged.{log_file};
-ghost use Rattle.wat_rowlog.specs.Making.{MayMake};
-ghost use Rattle.wat_rowlog.specs.Opening.{MayOpen};
-ghost use Rattle.wat_rowlog.specs.Opened.{IsOpened};
+ghost use Rattle.wat_commit_log.specs.Logged.{log_file};
+ghost use Rattle.wat_commit_log.specs.Making.{MayMake};
+ghost use Rattle.wat_commit_log.specs.Opening.{MayOpen};
+ghost use Rattle.wat_commit_log.specs.Opened.{IsOpened};
 ghost use Rattle.wat_words.specs.Commands.{command_of, names_of};
 ghost use Rattle.wat_begin.specs.Faults.{UnlessMemory};
 ghost use Rattle.wat_tool.specs.Called.{made, names_called, opened};
 ghost use Rattle.wat_tool.specs.Ending.{AsksFirst, ChangesFirstByte, Ends, EndsRun, IsBeforeDisk, IsMade, IsUntouched, LeavesUntouched, MetDiskFault};
-ghost use Rattle.wat_tool.specs.Steps.{IsOneText, PlaysOne, rows_of};
+ghost use Rattle.wat_session.specs.Session.{IsOneScript, IsSession};
+ghost use Rattle.wat_tool.specs.Steps.{tables_of};
 
 use std::alloc::Global;
 use wat_begin::{Fault, read_scripts};
-use wat_conn::ScriptList;
+use wat_commit_log::{InitRefusal, OpenWhy, Opened, init, open};
+use wat_conn::{ScriptList, Session};
 use wat_disk::Disk;
 use wat_io::Scripts;
-use wat_list::{Reserved, item};
-use wat_onetable_session::Session;
-use wat_play::play;
-use wat_rowlog::{InitRefusal, OpenWhy, Opened, init, open};
+use wat_session::play;
 use wat_words::{Command, read_words, script_names};
 
 /// What a command that was done leaves.
@@ -51,16 +51,20 @@ fn make_database<D: Disk>(disk: &mut D) -> Result<(), Fault>
 
 /// Opens the log.
 fn open_log<D: Disk>(alloc: Global, disk: &mut D) -> Result<Opened, Fault>
-    ensures opening { (opening : Result (List (ℤ × ℤ)) OpenWhy) × MayOpen D.tells_content ((D.told disk.old).content log_file) (Rose (D.told disk.old).faults (D.told disk.new).faults) opening
-        × (rows_of result ≡ opened opening) }
+    ensures opening { (opening : Result Tables OpenWhy) × MayOpen D.tells_content ((D.told disk.old).content log_file) (Rose (D.told disk.old).faults (D.told disk.new).faults) opening
+        × (tables_of result ≡ opened opening) }
     ensures log { D.tells_content → IfOk result (IsOpened (D.told disk.new)) }
     ensures file { IfOk result (λ opened. file_of opened.log ≡ log_file) }
+    ensures tables { IfOk result (λ opened. IsTables opened.tables) }
     ensures calls { IfOk result (λ opened. MakesCalls (6 * frames_of opened.log + 3) (D.told disk.old) (D.told disk.new)) }
     ensures untouched { IsUntouched (D.told disk.old) (D.told disk.new) }
     ensures cause { HasCause (D.told disk.old).faults (D.told disk.new).faults (result ≡ Err Fault.DiskFault) }
 {
     match open(alloc, disk) {
-        Ok(opened) => Ok(opened),
+        Ok(opened) => {
+            opened.tables.tables_law();
+            Ok(opened)
+        }
         Err(OpenWhy::NoDatabase) => Err(Fault::NoDatabase),
         Err(OpenWhy::Damaged { at }) => Err(Fault::Damaged { at }),
         Err(OpenWhy::DiskFault) => Err(Fault::DiskFault),
@@ -75,30 +79,25 @@ fn play_script<D: Disk>(
     opened: Opened,
     disk: &mut D,
 ) -> Result<Session, Fault>
-    requires one { IsOneText texts }
+    requires one { IsOneScript texts }
     requires file { file_of opened.log ≡ log_file }
     requires opened { D.tells_content → IsOpened (D.told disk.old) opened }
-    ensures session { IfOk result (PlaysOne D.tells_content (D.told disk.old) (D.told disk.new) texts opened.rows.entries) }
+    ensures session { IfOk result (IsSession (record {
+      tells = D.tells_content;
+      entry = D.told disk.old;
+      now = D.told disk.new;
+      start = (D.told disk.old).moment;
+      file = log_file;
+      base = opened.tables;
+    }) texts) }
     ensures memory { IsOkUnless result Fault.Memory }
     ensures never_falls { (D.told disk.old).faults ≤ (D.told disk.new).faults }
     ensures not_begun { OnErr result (disk.new ≡ disk.old) }
 {
-    // The room for the transcript is made before the disk is changed.
-    let mut transcripts = Reserved::new(alloc);
-    if transcripts.reserve(1).is_err() {
-        return Err(Fault::Memory);
+    match play(alloc, texts, opened, disk) {
+        Ok(session) => Ok(session),
+        Err(_) => Err(Fault::Memory),
     }
-    let played = match play(alloc, item(&texts, 0).as_str(), opened, disk) {
-        Ok(played) => played,
-        Err(_) => return Err(Fault::Memory),
-    };
-    transcripts.push(played.transcript);
-    Ok(Session {
-        scripts: texts,
-        transcripts: transcripts.into_items(),
-        moments: played.moments,
-        stop: played.stop,
-    })
 }
 
 /// Plays the script that the words of `run` name over the log.

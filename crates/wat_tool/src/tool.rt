@@ -8,9 +8,9 @@ use std::alloc::Global;
 use std::sync::Wait;
 use std::thread::Threads;
 use wat_begin::Fault;
+use wat_conn::Session;
 use wat_disk::Disk;
 use wat_io::{Gate, Scripts, Sink};
-use wat_onetable_session::Session;
 use wat_words::Command;
 
 /// What a call of the program leaves.

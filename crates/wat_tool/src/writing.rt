@@ -9,9 +9,9 @@ use crate::performing::Done;
 use itoa::Buffer;
 use std::alloc::Global;
 use wat_begin::Fault;
+use wat_conn::{Reason, Session};
 use wat_io::{Sink, SinkFault, write_all};
-use wat_onetable_print::printed;
-use wat_onetable_session::{Reason, Session};
+use wat_print::printed;
 
 /// Writes one text and then another.
 #[tactic(auto, using(crate::proofs::SinkLemmas::appended))]
@@ -115,7 +115,9 @@ fn session_status(stop: Option<Reason>, found: bool, whole: bool) -> u8
     ensures { result ≡ session_status stop found whole }
 {
     match (stop, found, whole) {
+        (Some(Reason::Damaged { .. }), _, _) => 3,
         (Some(Reason::DiskFault), _, _) => 4,
+        (Some(Reason::PageLimit { .. }), _, _) => 6,
         (Some(Reason::Memory), _, _) => 7,
         (None, false, _) => 7,
         (None, true, false) => 5,

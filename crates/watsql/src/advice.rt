@@ -2,9 +2,9 @@
 use std::alloc::Global;
 use std::fmt::Write;
 use wat_begin::Fault;
+use wat_conn::{Answer, Reply, Session};
 use wat_folder::Holder;
 use wat_list::NoMemory;
-use wat_onetable_session::{Answer, Reply, Session};
 use wat_words::Command;
 
 const COMMANDS: &str = "The commands, in the folder of the database:
@@ -18,9 +18,9 @@ fn drops_changes(session: &Session) -> bool {
     for transcript in session.transcripts.as_slice() {
         for entry in transcript.as_slice() {
             match entry.answer {
-                Answer::Given(Reply::Inserted(count)) => is_changed = is_changed || count > 0,
-                Answer::Given(Reply::Committed(_)) => is_changed = false,
-                _ => {}
+                Answer::Given(Reply::Committed(_) | Reply::RolledBack) => is_changed = false,
+                Answer::Given(Reply::Created(_) | Reply::Dropped(_)) => {}
+                _ => is_changed = is_changed || !entry.acts.is_empty(),
             }
         }
     }

@@ -1,4 +1,4 @@
-//! watsql: makes a database, and runs a script over its table `t` and its log.
+//! watsql: makes a database, and runs a script over its tables and its log.
 #![tactic(auto)]
 
 mod advice;

@@ -5,17 +5,24 @@ use wat_disk::{Disk, FileId, MemoryDisk};
 use wat_io::{MemoryScripts, MemorySink};
 use wat_tool::{Finish, run_tool};
 
-pub const ONE_ROW: &str = "INSERT INTO t VALUES (2, 5); SELECT * FROM t; COMMIT;";
+/// A table, three rows in one transaction, and what is in it.
+pub const FIRST: &str =
+    "CREATE TABLE t (k INTEGER PRIMARY KEY, v INTEGER); INSERT INTO t VALUES (1, 10); INSERT INTO t VALUES (3, 30); INSERT INTO t VALUES (5, 50); SELECT * FROM t; COMMIT;";
 
-pub const ONE_ROW_TEXT: &str =
-    "connection 1\n1: inserted 1\n2: rows 1\n(2, 5)\n3: committed 1\ncommits 1\n";
+pub const FIRST_TEXT: &str =
+    "connection 1\n1: created 1\n2: inserted 1\n3: inserted 1\n4: inserted 1\n5: rows 3\n(1, 10)\n(3, 30)\n(5, 50)\n6: committed 2\ncommits 2\n";
 
-pub const ONE_ROW_LOG: [u8; 26] = [
-    0xa5, 0, 0, 0, 0x14, 0, 2, 1, 0, 0, 0, 0, 0, 0, 0, 2, 1, 0, 0, 0, 0, 0, 0, 0, 5, 0,
+/// The log that it leaves: a frame of the table, and one of the rows with their Commit, whose gates are at 0 and 28.
+pub const FIRST_LOG: [u8; 121] = [
+    0xa5, 0, 0, 0, 23, 5, 1, 0, 0, 0, 1, 1, 116, 2, 1, 107, 1, 0, 0, 0, 1, 118, 1, 0, 0, 1, 1, 0,
+    0xa5, 0, 0, 0, 87, 1, 0, 1, 1, 0, 0, 0, 1, 0, 2, 1, 0, 0, 0, 0, 0, 0, 0, 1, 1, 0, 0, 0, 0, 0,
+    0, 0, 10, 1, 0, 1, 1, 0, 0, 0, 1, 0, 2, 1, 0, 0, 0, 0, 0, 0, 0, 3, 1, 0, 0, 0, 0, 0, 0, 0, 30,
+    1, 0, 1, 1, 0, 0, 0, 1, 0, 2, 1, 0, 0, 0, 0, 0, 0, 0, 5, 1, 0, 0, 0, 0, 0, 0, 0, 50, 3, 0, 1,
+    0,
 ];
 
-pub const REFUSALS: &str =
-    "INSERT INTO t VALUES (2, 6); INSERT INTO t VALUES (3, 2147483648); COMMIT; DELETE FROM t;";
+/// The calls and bytes that the disk has room for.
+const ROOM: usize = 8388608;
 
 /// What a call is made over, and the numbers of the calls that fail.
 #[derive(Clone, Copy)]
@@ -36,7 +43,7 @@ pub fn over<'a>(log: &'a [u8], script: &'a [u8]) -> Around<'a> {
         read: None,
         disk: None,
         write: None,
-        room: 4096,
+        room: 32768,
     }
 }
 
@@ -71,7 +78,7 @@ pub fn scripts_of(
 pub fn disk_of(alloc: Global, log: &[u8], fails: Option<u64>) -> Result<MemoryDisk, AllocError> {
     let log = Vec::from_slice(alloc, log)?;
     let files = vec![in alloc; Vec::new(alloc), Vec::new(alloc), log]?;
-    MemoryDisk::new(alloc, files, 4096, list_of(alloc, fails)?)
+    MemoryDisk::new(alloc, files, ROOM, list_of(alloc, fails)?)
 }
 
 pub fn sink_of(alloc: Global, room: u64, fails: Option<u64>) -> Result<MemorySink, AllocError> {
@@ -138,4 +145,16 @@ pub fn is_logged(
 ) -> Result<bool, Fail> {
     let (mut disk, answered) = call(alloc, line, around, status, text)?;
     Ok(answered && has_log(alloc, &mut disk, log)?)
+}
+
+/// A call of this script over a database with this log.
+pub fn played(
+    alloc: Global,
+    line: &str,
+    log: &[u8],
+    script: &str,
+) -> Result<Finish<MemoryDisk>, AllocError> {
+    let disk = disk_of(alloc, log, None)?;
+    let (finish, _) = call_on(alloc, line, &over(log, script.as_bytes()), disk, b"")?;
+    Ok(finish)
 }

@@ -9,7 +9,7 @@ mod calls;
 #[cfg(test)]
 mod faults;
 #[cfg(test)]
-mod inserts;
+mod limits;
 #[cfg(test)]
 mod logs;
 #[cfg(test)]

@@ -1,18 +1,17 @@
-ghost use Rattle.std.specs.Prelude.{◌≤◌, length};
-
-// Logs of rows, as bytes.
+// Logs of transactions, as bytes.
+use crate::calls::FIRST_LOG;
 use std::alloc::Global;
 use std::test::Fail;
+use wat_commit_log::{OpenWhy, open, restart_laws, writing_law};
 use wat_disk::MemoryDisk;
-use wat_gate::Frame;
-use wat_rowlog::{OpenWhy, open, push_rows, restart_laws};
 
-// The encoding of the row (2, 5).
-const ROW: [u8; 20] = [0, 2, 1, 0, 0, 0, 0, 0, 0, 0, 2, 1, 0, 0, 0, 0, 0, 0, 0, 5];
+// The records of a table t (k INTEGER PRIMARY KEY, v INTEGER), of the row (1, 10) in it, and of a Commit.
+const TABLE: [u8; 23] = [
+    5, 1, 0, 0, 0, 1, 1, 116, 2, 1, 107, 1, 0, 0, 0, 1, 118, 1, 0, 0, 1, 1, 0,
+];
 
-// A log whose one frame has that row.
-const ONE: [u8; 26] = [
-    0xA5, 0, 0, 0, 20, 0, 2, 1, 0, 0, 0, 0, 0, 0, 0, 2, 1, 0, 0, 0, 0, 0, 0, 0, 5, 0,
+const ROW: [u8; 31] = [
+    1, 0, 1, 1, 0, 0, 0, 1, 0, 2, 1, 0, 0, 0, 0, 0, 0, 0, 1, 1, 0, 0, 0, 0, 0, 0, 0, 10, 3, 0, 1,
 ];
 
 // A disk whose log has these bytes, and whose calls at these moments fail.
@@ -22,21 +21,6 @@ fn disk_of(alloc: Global, log: &[u8], fails: &[u64]) -> Result<MemoryDisk, Fail>
     files.push(Vec::new(alloc))?;
     files.push(log.to_vec(alloc)?)?;
     Ok(MemoryDisk::new(alloc, files, 64, fails.to_vec(alloc)?)?)
-}
-
-// Whether the log opens, and gives these rows.
-fn has_rows(alloc: Global, log: &[u8], rows: &[(i32, i32)]) -> Result<bool, Fail> {
-    let mut disk = disk_of(alloc, log, &[])?;
-    let opened = open(alloc, &mut disk).ok().ok_or("open")?;
-    if opened.rows.len() != rows.len() {
-        return Ok(false);
-    }
-    for (key, value) in rows {
-        if opened.rows.get(key) != Some(value) {
-            return Ok(false);
-        }
-    }
-    Ok(true)
 }
 
 fn why(alloc: Global, log: &[u8], fails: &[u64]) -> Result<Option<OpenWhy>, Fail> {
@@ -52,117 +36,94 @@ fn add_frame(log: &mut Vec<u8>, body: &[u8]) -> Result<(), Fail> {
     Ok(())
 }
 
-// Why a log of two frames with these bodies was not opened.
-fn why_two(alloc: Global, first: &[u8], second: &[u8]) -> Result<Option<OpenWhy>, Fail> {
+// Why a log of frames with these bodies was not opened.
+fn why_of(alloc: Global, bodies: &[&[u8]]) -> Result<Option<OpenWhy>, Fail> {
     let mut log = Vec::new(alloc);
-    add_frame(&mut log, first)?;
-    add_frame(&mut log, second)?;
+    for body in bodies {
+        add_frame(&mut log, body)?;
+    }
     log.push(0)?;
     why(alloc, &log, &[])
 }
 
-// (2, 5), and then (3, -1) and (-2147483648, 2147483647) in one body; what stands behind the closed gate means nothing.
-const THREE: [u8; 72] = [
-    0xA5, 0, 0, 0, 20, 0, 2, 1, 0, 0, 0, 0, 0, 0, 0, 2, 1, 0, 0, 0, 0, 0, 0, 0, 5, 0xA5, 0, 0, 0,
-    40, 0, 2, 1, 0, 0, 0, 0, 0, 0, 0, 3, 1, 255, 255, 255, 255, 255, 255, 255, 255, 0, 2, 1, 255,
-    255, 255, 255, 128, 0, 0, 0, 1, 0, 0, 0, 0, 127, 255, 255, 255, 0, 0xA5,
-];
+#[test]
+fn a_log_gives_its_tables(rt: HostRuntime) -> Result<(), Fail> {
+    restart_laws();
+    writing_law();
+    let mut disk = disk_of(rt.alloc(), &FIRST_LOG, &[])?;
+    let opened = open(rt.alloc(), &mut disk).ok().ok_or("open")?;
+    assert_eq!(rt; opened.tables.schema().next(), 2);
+    assert_eq!(rt; opened.tables.table("t").ok_or("t")?.rows().count(), 3);
+    assert!(rt; opened.tables.table("u").is_none());
+    Ok(())
+}
 
 #[test]
-fn logs_give_their_rows(rt: HostRuntime) -> Result<(), Fail> {
-    let logs: [(&[u8], &[(i32, i32)]); 3] = [
-        (&[0], &[]),
-        (&ONE, &[(2, 5)]),
-        (&THREE, &[(-2147483648, 2147483647), (2, 5), (3, -1)]),
-    ];
-    for (log, rows) in logs {
-        assert!(rt; has_rows(rt.alloc(), log, rows)?, "{rows:?}");
+fn a_log_that_is_cut_is_damaged_at_a_gate(rt: HostRuntime) -> Result<(), Fail> {
+    let empty = why(rt.alloc(), &[], &[])?;
+    assert_eq!(rt; empty, Some(OpenWhy::NoDatabase));
+    for end in 1..121 {
+        let at = if end < 29 { 0 } else { 28 };
+        let cut = why(rt.alloc(), &FIRST_LOG[..end], &[])?;
+        assert_eq!(rt; cut, Some(OpenWhy::Damaged { at }), "cut at {end}");
     }
     Ok(())
 }
 
 #[test]
-fn what_is_no_log_of_rows_is_refused_at_its_place(rt: HostRuntime) -> Result<(), Fail> {
+fn what_is_no_transaction_is_refused_at_its_frame(rt: HostRuntime) -> Result<(), Fail> {
     let alloc = rt.alloc();
-    let empty = why(alloc, &[], &[])?;
-    assert_eq!(rt; empty, Some(OpenWhy::NoDatabase));
-    for end in 1..26 {
-        let cut = why(alloc, &ONE[..end], &[])?;
-        assert_eq!(rt; cut, Some(OpenWhy::Damaged { at: 0 }), "cut at {end}");
-    }
+    let both = why_of(alloc, &[&TABLE, &ROW])?;
+    assert_eq!(rt; both, None);
     let bodies: [&[u8]; 9] = [
-        // A NULL, a text, three values, and one.
-        &[0, 2, 1, 0, 0, 0, 0, 0, 0, 0, 3, 0],
-        &[0, 2, 1, 0, 0, 0, 0, 0, 0, 0, 3, 2, 0, 1, 97],
+        // The table again, and the row without its Commit.
+        &TABLE,
+        &ROW[..28],
+        // A Commit alone, one of connection 2, and a Rollback.
+        &[3, 0, 1],
         &[
-            0, 3, 1, 0, 0, 0, 0, 0, 0, 0, 3, 1, 0, 0, 0, 0, 0, 0, 0, 3, 1, 0, 0, 0, 0, 0, 0, 0, 3,
+            1, 0, 1, 1, 0, 0, 0, 1, 0, 2, 1, 0, 0, 0, 0, 0, 0, 0, 1, 1, 0, 0, 0, 0, 0, 0, 0, 10, 3,
+            0, 2,
         ],
-        &[0, 1, 1, 0, 0, 0, 0, 0, 0, 0, 3],
-        // Keys of 2147483648 and of -2147483649, and a value of 2147483648.
-        &[0, 2, 1, 0, 0, 0, 0, 128, 0, 0, 0, 1, 0, 0, 0, 0, 0, 0, 0, 5],
+        &[4, 0, 1],
+        // A row that is not there, a row of a table that is not there, and one that does not fit.
         &[
-            0, 2, 1, 255, 255, 255, 255, 127, 255, 255, 255, 1, 0, 0, 0, 0, 0, 0, 0, 5,
-        ],
-        &[0, 2, 1, 0, 0, 0, 0, 0, 0, 0, 3, 1, 0, 0, 0, 0, 128, 0, 0, 0],
-        // A byte behind the row, and a key twice in one body.
-        &[
-            0, 2, 1, 0, 0, 0, 0, 0, 0, 0, 3, 1, 0, 0, 0, 0, 0, 0, 0, 5, 0,
+            1, 0, 1, 3, 0, 0, 0, 1, 0, 2, 1, 0, 0, 0, 0, 0, 0, 0, 1, 1, 0, 0, 0, 0, 0, 0, 0, 10, 3,
+            0, 1,
         ],
         &[
-            0, 2, 1, 0, 0, 0, 0, 0, 0, 0, 3, 1, 0, 0, 0, 0, 0, 0, 0, 5, 0, 2, 1, 0, 0, 0, 0, 0, 0,
-            0, 3, 1, 0, 0, 0, 0, 0, 0, 0, 6,
+            1, 0, 1, 1, 0, 0, 0, 2, 0, 2, 1, 0, 0, 0, 0, 0, 0, 0, 1, 1, 0, 0, 0, 0, 0, 0, 0, 10, 3,
+            0, 1,
         ],
+        &[
+            1, 0, 1, 1, 0, 0, 0, 1, 0, 2, 0, 1, 0, 0, 0, 0, 0, 0, 0, 10, 3, 0, 1,
+        ],
+        // A schema change with a Commit.
+        &[5, 2, 0, 0, 0, 1, 3, 0, 1],
     ];
     for body in &bodies {
-        let first = why_two(alloc, body, &ROW)?;
-        assert_eq!(rt; first, Some(OpenWhy::Damaged { at: 0 }), "{body:?} first");
-        let second = why_two(alloc, &ROW, body)?;
-        assert_eq!(rt;
-            second,
-            Some(OpenWhy::Damaged { at: 25 }),
-            "{body:?} second"
-        );
+        let found = why_of(alloc, &[&TABLE, body])?;
+        assert_eq!(rt; found, Some(OpenWhy::Damaged { at: 28 }), "{body:?}");
     }
-    let twice = why_two(alloc, &ROW, &ROW)?;
+    let twice = why_of(alloc, &[&TABLE, &ROW, &ROW])?;
+    assert_eq!(rt; twice, Some(OpenWhy::Damaged { at: 64 }), "a row twice");
+    let before = why_of(alloc, &[&ROW, &TABLE])?;
     assert_eq!(rt;
-        twice,
-        Some(OpenWhy::Damaged { at: 25 }),
-        "a key in two bodies"
+        before,
+        Some(OpenWhy::Damaged { at: 0 }),
+        "a row before its table"
     );
     Ok(())
 }
 
 #[test]
 fn a_call_that_fails_is_a_fault(rt: HostRuntime) -> Result<(), Fail> {
-    let alloc = rt.alloc();
-    // The calls are: a length; a length and three reads of gates; a length and three reads of the frame.
-    for call in 0..9 {
-        let answer = why(alloc, &ONE, &[call])?;
+    // The calls are: a length; a length and five reads of gates; a length and three reads of each frame.
+    for call in 0..15 {
+        let answer = why(rt.alloc(), &FIRST_LOG, &[call])?;
         assert_eq!(rt; answer, Some(OpenWhy::DiskFault), "call {call}");
     }
-    let answer = why(alloc, &ONE, &[9])?;
-    assert_eq!(rt; answer, None, "there is no tenth call");
-    Ok(())
-}
-
-// Whether these rows are pushed as these bytes.
-fn is_pushed(alloc: Global, rows: &[(i32, i32)], body: &[u8]) -> Result<bool, Fail>
-    requires { length rows.now ≤ 100000 }
-{
-    let mut frame = Frame::new(alloc)?;
-    push_rows(alloc, rows, &mut frame)?;
-    Ok(frame.as_slice() == body)
-}
-
-const TWO_ROWS: [u8; 40] = [
-    0, 2, 1, 255, 255, 255, 255, 255, 255, 255, 255, 1, 0, 0, 0, 0, 0, 0, 1, 0, 0, 2, 1, 0, 0, 0,
-    0, 0, 0, 0, 3, 1, 0, 0, 0, 0, 0, 0, 0, 0,
-];
-
-#[test]
-fn rows_are_pushed_as_they_are_encoded(rt: HostRuntime) -> Result<(), Fail> {
-    restart_laws();
-    assert!(rt; is_pushed(rt.alloc(), &[(2, 5)], &ROW)?);
-    assert!(rt; is_pushed(rt.alloc(), &[(-1, 256), (3, 0)], &TWO_ROWS)?);
+    let answer = why(rt.alloc(), &FIRST_LOG, &[15])?;
+    assert_eq!(rt; answer, None, "there is no sixteenth call");
     Ok(())
 }

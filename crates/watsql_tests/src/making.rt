@@ -2,8 +2,8 @@
 use crate::calls::{call_on, disk_of, has_log, over};
 use std::alloc::{AllocError, Global};
 use std::test::Fail;
+use wat_commit_log::{InitRefusal, init};
 use wat_disk::{Disk, MemoryDisk, Pick};
-use wat_rowlog::{InitRefusal, init};
 
 /// What making a database answers over this log, and the disk after it.
 fn made(
@@ -65,20 +65,16 @@ fn a_stop_leaves_no_database_or_an_empty_one(rt: HostRuntime) -> Result<(), Fail
 /// `init`, `init` again, and a script over what was made.
 #[test]
 fn a_database_is_made_once_and_then_run_over(rt: HostRuntime) -> Result<(), Fail> {
-    let around = over(&[], b"INSERT INTO t VALUES (2, 5); COMMIT;");
+    let around = over(&[], b"CREATE TABLE t (k INTEGER PRIMARY KEY);");
     let mut disk = disk_of(rt.alloc(), &[], None)?;
     for (line, status, text) in [
         ("init", 0, ""),
         ("init", 3, "watsql: a database is here\n"),
+        ("run a.sql", 0, "connection 1\n1: created 1\ncommits 1\n"),
         (
             "run a.sql",
             0,
-            "connection 1\n1: inserted 1\n2: committed 1\ncommits 1\n",
-        ),
-        (
-            "run a.sql",
-            0,
-            "connection 1\n1: error Duplicate (2)\n2: committed 1\ncommits 1\n",
+            "connection 1\n1: error TableExists t\ncommits 0\n",
         ),
     ] {
         let (finish, wrote) = call_on(rt.alloc(), line, &around, disk, text.as_bytes())?;

@@ -1,5 +1,5 @@
 // The statuses and their causes.
-use crate::calls::{Around, ONE_ROW, ONE_ROW_LOG, ONE_ROW_TEXT, is_answered, is_logged, over};
+use crate::calls::{Around, FIRST, FIRST_LOG, FIRST_TEXT, is_answered, is_logged, over};
 use std::io;
 use std::test::Fail;
 use wat_begin::Fault;
@@ -26,7 +26,7 @@ const NO_TEXT: [&str; 7] = [
 
 #[test]
 fn words_that_are_no_command_are_usage(rt: HostRuntime) -> Result<(), Fail> {
-    let well = over(&[0], ONE_ROW.as_bytes());
+    let well = over(&[0], FIRST.as_bytes());
     for line in [
         "frob",
         "",
@@ -64,18 +64,18 @@ fn arguments_that_are_no_text_are_no_command(rt: HostRuntime) -> Result<(), Fail
 
 #[test]
 fn each_status_has_its_cause(rt: HostRuntime) -> Result<(), Fail> {
-    let well = over(&[0], ONE_ROW.as_bytes());
+    let well = over(&[0], FIRST.as_bytes());
     let new = over(&[], b"");
     let open = Around {
         log: &[0xa5],
         ..well
     };
     let logged = Around {
-        log: &ONE_ROW_LOG,
+        log: &FIRST_LOG,
         ..well
     };
     let cut = Around {
-        log: &ONE_ROW_LOG[..25],
+        log: &FIRST_LOG[..100],
         ..well
     };
     let empty = Around { log: &[], ..well };
@@ -139,7 +139,7 @@ fn each_status_has_its_cause(rt: HostRuntime) -> Result<(), Fail> {
         ("run a.sql", no_read, 2, NO_SCRIPT),
         ("run a.sql", empty, 3, "watsql: no database\n"),
         ("run a.sql", open, 3, "watsql: damaged log at 0\n"),
-        ("run a.sql", cut, 3, "watsql: damaged log at 0\n"),
+        ("run a.sql", cut, 3, "watsql: damaged log at 28\n"),
         ("run a.sql", no_write, 5, ""),
         ("run a.sql", neither, 4, ""),
     ] {
@@ -153,8 +153,8 @@ fn each_status_has_its_cause(rt: HostRuntime) -> Result<(), Fail> {
 
 #[test]
 fn a_text_goes_out_as_far_as_there_is_room(rt: HostRuntime) -> Result<(), Fail> {
-    let well = over(&[0], ONE_ROW.as_bytes());
-    let text = ONE_ROW_TEXT.as_bytes();
+    let well = over(&[0], FIRST.as_bytes());
+    let text = FIRST_TEXT.as_bytes();
     for room in 0..text.len() {
         let around = Around {
             room: room as u64,
@@ -210,8 +210,8 @@ fn a_fault_keeps_its_status(rt: HostRuntime) -> Result<(), Fail> {
 
 #[test]
 fn a_broken_log_is_damaged_at_its_gate(rt: HostRuntime) -> Result<(), Fail> {
-    let mut second_gate = ONE_ROW_LOG;
-    second_gate[25] = 0xa5;
+    let mut second_gate = FIRST_LOG;
+    second_gate[120] = 0xa5;
     let logs: [(&[u8], &str); 6] = [
         (&[0xa5], "watsql: damaged log at 0\n"),
         (&[0xa5, 0, 0, 0, 0, 0], "watsql: damaged log at 0\n"),
@@ -221,10 +221,10 @@ fn a_broken_log_is_damaged_at_its_gate(rt: HostRuntime) -> Result<(), Fail> {
         ),
         (&[0xa5, 0, 0, 0, 1, 0xaa], "watsql: damaged log at 0\n"),
         (&[0xa5, 0, 0, 0, 1, 0xaa, 0], "watsql: damaged log at 0\n"),
-        (&second_gate, "watsql: damaged log at 25\n"),
+        (&second_gate, "watsql: damaged log at 120\n"),
     ];
     for (log, text) in logs {
-        let around = over(log, ONE_ROW.as_bytes());
+        let around = over(log, FIRST.as_bytes());
         assert!(rt;
             is_logged(rt.alloc(), "run a.sql", &around, 3, text.as_bytes(), log)?,
             "{text}"

@@ -1,5 +1,5 @@
 // What stops leave, and a call over it.
-use crate::calls::{ONE_ROW, call_on, disk_of, over, scripts_of, sink_of, words_of};
+use crate::calls::{played, scripts_of, sink_of, words_of};
 use std::alloc::{AllocError, Global};
 use std::sync::Wait;
 use std::test::Fail;
@@ -8,20 +8,22 @@ use wat_disk::{Disk, MemoryDisk, Pick};
 use wat_io::FreeGate;
 use wat_tool::{Finish, run};
 
-const THREE_ROWS: &str =
-    "INSERT INTO t VALUES (2, 5); COMMIT; INSERT INTO t VALUES (4, -1); COMMIT; INSERT INTO t VALUES (1, 7); COMMIT;";
+/// A table, rows, an UPDATE with a DELETE, a transaction that is rolled back, and a row.
+const STEPS: &str =
+    "CREATE TABLE t (k INTEGER PRIMARY KEY, v INTEGER); INSERT INTO t VALUES (1, 10); INSERT INTO t VALUES (2, 20); COMMIT; UPDATE t SET v = v + 1 WHERE k = 1; DELETE FROM t WHERE k = 2; COMMIT; INSERT INTO t VALUES (3, 30); DELETE FROM t WHERE k = 1; ROLLBACK; INSERT INTO t VALUES (4, 40); COMMIT;";
 
-/// The texts of SELECT after no commit, the first, the second and the third.
-const SELECTED: [&str; 4] = [
+/// The texts of SELECT after no commit, the CREATE, and each COMMIT.
+const SELECTED: [&str; 5] = [
+    "connection 1\n1: error NoTable t\ncommits 0\n",
     "connection 1\n1: rows 0\ncommits 0\n",
-    "connection 1\n1: rows 1\n(2, 5)\ncommits 0\n",
-    "connection 1\n1: rows 2\n(2, 5)\n(4, -1)\ncommits 0\n",
-    "connection 1\n1: rows 3\n(1, 7)\n(2, 5)\n(4, -1)\ncommits 0\n",
+    "connection 1\n1: rows 2\n(1, 10)\n(2, 20)\ncommits 0\n",
+    "connection 1\n1: rows 1\n(1, 11)\ncommits 0\n",
+    "connection 1\n1: rows 2\n(1, 11)\n(4, 40)\ncommits 0\n",
 ];
 
 const PICKS: [Pick; 4] = [Pick::Old, Pick::New, Pick::Torn(0), Pick::Torn(0xa5)];
 
-/// How many commits this text shows; 4 where it shows none of these.
+/// How many commits this text shows; 5 where it shows none of these.
 fn commits_in(status: u8, text: &[u8]) -> usize {
     for (count, selected) in SELECTED.iter().enumerate() {
         if status == 0 && text == selected.as_bytes() {
@@ -93,18 +95,6 @@ fn is_kept<R: Threads + Wait + Sync>(
     Ok(least <= commits && commits <= most && keeps(rt, alloc, &opened, pick, commits)?)
 }
 
-/// A call over a database with no rows, or one that makes it.
-fn played(
-    alloc: Global,
-    line: &str,
-    log: &[u8],
-    script: &str,
-) -> Result<Finish<MemoryDisk>, AllocError> {
-    let disk = disk_of(alloc, log, None)?;
-    let (finish, _) = call_on(alloc, line, &over(log, script.as_bytes()), disk, b"")?;
-    Ok(finish)
-}
-
 #[test]
 fn a_stop_keeps_a_database_that_was_made(rt: HostRuntime) -> Result<(), Fail> {
     let made = played(rt.alloc(), "init", &[], "")?;
@@ -120,16 +110,14 @@ fn a_stop_keeps_a_database_that_was_made(rt: HostRuntime) -> Result<(), Fail> {
 
 #[test]
 fn a_stop_keeps_each_acknowledged_commit(rt: HostRuntime) -> Result<(), Fail> {
-    for script in [ONE_ROW, THREE_ROWS] {
-        let finish = played(rt.alloc(), "run a.sql", &[0], script)?;
-        assert_eq!(rt; finish.status, 0, "{script}");
-        for moment in 0..finish.disk.moment().saturating_add(1) {
-            for pick in PICKS {
-                assert!(rt;
-                    is_kept(&rt, rt.alloc(), &finish, moment, pick)?,
-                    "{script} {moment} {pick:?}"
-                );
-            }
+    let finish = played(rt.alloc(), "run a.sql", &[0], STEPS)?;
+    assert_eq!(rt; finish.status, 0);
+    for moment in 0..finish.disk.moment().saturating_add(1) {
+        for pick in PICKS {
+            assert!(rt;
+                is_kept(&rt, rt.alloc(), &finish, moment, pick)?,
+                "{moment} {pick:?}"
+            );
         }
     }
     Ok(())
@@ -138,8 +126,11 @@ fn a_stop_keeps_each_acknowledged_commit(rt: HostRuntime) -> Result<(), Fail> {
 /// The moments of the commits are those after their last calls: an opening makes three, and each commit four.
 #[test]
 fn each_commit_has_its_moment(rt: HostRuntime) -> Result<(), Fail> {
-    let finish = played(rt.alloc(), "run a.sql", &[0], THREE_ROWS)?;
-    assert_eq!(rt; finish.session.moments.as_slice(), [7, 11, 15].as_slice());
-    assert_eq!(rt; finish.disk.moment(), 15);
+    let finish = played(rt.alloc(), "run a.sql", &[0], STEPS)?;
+    assert_eq!(rt;
+        finish.session.moments.as_slice(),
+        [7, 11, 15, 19].as_slice()
+    );
+    assert_eq!(rt; finish.disk.moment(), 19);
     Ok(())
 }

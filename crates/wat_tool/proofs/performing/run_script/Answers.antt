@@ -1,15 +1,15 @@
-use Rattle.std.proofs.Common.{◌≡◌, ◌≤◌, ◌++◌, [], ℕ, List, Ok, Err, Some, Result, ℤ, length, arith, refl, sym, map, string_bytes, ap, ◌∙◌, subst}
+use Rattle.std.proofs.Common.{◌≡◌, ◌≤◌, ◌++◌, [], ℕ, List, Ok, Err, Some, Result, length, arith, refl, sym, map, string_bytes, ap, ◌∙◌, subst}
 use Rattle.wat_disk.specs.Disk.{Told}
 use Rattle.wat_faults.specs.Faults.{Rose}
 use Rattle.wat_gate.specs.Bodies.{bodies}
 use Rattle.wat_gate.specs.GateLog.{file_of, frames_of}
-use Rattle.wat_rowlog.specs.Logged.{log_file}
+use Rattle.wat_commit_log.specs.Logged.{log_file}
 use Rattle.wat_words.specs.Commands.{names_of}
 use Rattle.wat_words.specs.declared.Command.TheVariants.{Run}
 use Rattle.wat_begin.specs.Faults.{UnlessMemory}
 use Rattle.wat_begin.specs.Readings.{Reading, AreReadings, names_asked, scripts_of}
 use Rattle.wat_begin.specs.declared.fault.Fault.{Fault}
-use Rattle.wat_tool.proofs.CalledLemmas.{MayOpen-later, one_script, opened_on_disk, opened_rows}
+use Rattle.wat_tool.proofs.CalledLemmas.{MayOpen-later, one_script, opened_on_disk, opened_tables}
 use Rattle.wat_tool.proofs.EndingLemmas.{memory_ends, opened_ends, or_memory, rose_on, run_ends, unless_both}
 use Rattle.wat_tool.proofs.SessionLemmas.{session_of}
 use Rattle.wat_tool.proofs.UntouchedLemmas.{untouched_here, untouched_on}
@@ -95,17 +95,17 @@ returns-in-Ok-play_script-clause-ends g c =
     let session = c.in-Ok-play_script.session in
     let names = map string_bytes c.script_names.result.now in
     let log = c.in-Ok-open_log.opened.log in
-    let rows = c.in-Ok-open_log.opened.rows.entries in
+    let tables = c.in-Ok-open_log.opened.tables in
     let untouched : IsUntouched before mid = c.open_log.ensures.untouched in
     let frames : g.D.Disk.tells_content → frames_of log ≡ length (bodies (before.content log_file)) = λ tells.
     (c.in-Ok-open_log.ensures.log tells).log.frames ∙ ap (λ (f : ℕ). length (bodies (mid.content f))) c.in-Ok-open_log.ensures.file ∙ ap (λ (l : List ℕ). length (bodies l)) (untouched.content log_file) in
     subst (λ (n : List (List ℕ)). EndsRun outside n (Ok (Played session))) c.script_names.ensures
     (run_ends outside names (Ok c.in-Ok.texts) (Ok (Played session)) c.in-Ok.ensures.asked c.in-Ok.ensures.read
-    (opened_ends outside c.in-Ok.texts opening.0 (Ok rows) (Ok (Played session))
+    (opened_ends outside c.in-Ok.texts opening.0 (Ok tables) (Ok (Played session))
     (MayOpen-later g.D.Disk.tells_content (before.content log_file) (Rose before.faults mid.faults) (Rose before.faults now.faults) opening.0 (rose_on before mid now c.play_script.ensures.never_falls) opening.1)
     opening.2
-    (session_of outside mid c.in-Ok.texts rows session (frames_of log) untouched (c.open_log.ensures.cause.kept (λ e. let ok = c.in-Ok-open_log.is in cc)) c.in-Ok-open_log.ensures.calls frames
-    (opened_rows g.D.Disk.tells_content (before.content log_file) (Rose before.faults mid.faults) opening.0 rows opening.2 opening.1) c.in-Ok-play_script.ensures.session)))
+    (session_of outside mid c.in-Ok.texts tables session (frames_of log) untouched (c.open_log.ensures.cause.kept (λ e. let ok = c.in-Ok-open_log.is in cc)) c.in-Ok-open_log.ensures.calls frames
+    (opened_tables g.D.Disk.tells_content (before.content log_file) (Rose before.faults mid.faults) opening.0 tables opening.2 opening.1) c.in-Ok-open_log.ensures.tables c.in-Ok-play_script.ensures.session)))
 
 pub returns-in-Ok-play_script-clause-asks : goal.returns-in-Ok-play_script-clause-asks
 returns-in-Ok-play_script-clause-asks g c = record { count = c.read_scripts.ensures.asked_first.0; is = rw (← c.script_names.ensures) c.read_scripts.ensures.asked_first.1 }

@@ -7,6 +7,7 @@ use Rattle.wat_tool.specs.Ending.{Outside, Ends, LeavesUntouched}
 use Rattle.wat_tool.specs.Finishes.{Finishes}
 use Rattle.wat_tool.specs.Reporting.{Output, Reports}
 use Rattle.wat_tool.proofs.EndingLemmas.{outcome_fault}
+use Rattle.wat_tool.proofs.SessionLemmas.{outcome_has}
 use Rattle.wat_tool.proofs.StatusLemmas.{status_0, status_1, status_1_or_7, status_2, status_4}
 use Rattle.std.specs.Prelude.{IfErr}
 use Rattle.wat_tool.proofs.tool.run_tool.Goals as goal
@@ -40,6 +41,7 @@ returns g c =
       ends = subst (Ends (outside now) words) (sym c.finished.ensures.ended) done.ends;
       asks = done.asks;
       nothing_asked = c.finished.ensures.nothing_asked;
+      history = outcome_has (outside now) words left.outcome left.session (subst (Ends (outside now) words) (sym c.finished.ensures.ended) done.ends);
       untouched = subst (λ (o : Result Command Fault). IfErr o (LeavesUntouched words (g.D.Disk.told c.args.disk) now)) (sym c.finished.ensures.outcome) (outcome_fault end (LeavesUntouched words (g.D.Disk.told c.args.disk) now) done.untouched);
       init = done.init;
       reports = subst (λ (e : Result Done Fault). Reports output e status) (sym c.finished.ensures.ended) reports;

@@ -1,5 +1,0 @@
-mod BodyLemmas
-mod EntriesLemmas
-mod RowsLemmas
-mod SessionLemmas
-mod StopsLemmas

@@ -1,9 +1,0 @@
-use Rattle.std.proofs.Common.{◌≡◌, ◌+◌, ◌≤◌, ◌++◌, length, map, take}
-use Rattle.wat_play.specs.Answered.{stopped_at}
-use Rattle.wat_play.proofs.playing.push_stopped.Given as goal
-
-abbrev pub invariant-loop-span : goal.invariant-loop-span
-invariant-loop-span l = record {
-  items : l.entries.items ≡ l.initial.entries.items ++ map (stopped_at l.reason) (take l.span-index l.spans);
-  room : length l.spans ≤ l.span-index + l.entries.spare;
-}

@@ -1,4 +1,0 @@
-pub mod Bodies
-pub mod Refused
-mod MakingLemmas
-pub mod RowLaws

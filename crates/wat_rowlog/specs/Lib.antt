@@ -1,6 +1,0 @@
-pub mod Laws
-pub mod Logged
-pub mod Making
-pub mod Opened
-pub mod Opening
-pub mod Reading

@@ -1,0 +1,4 @@
+pub mod Restarting
+pub mod Committing
+pub mod Stopping
+pub mod Entries
