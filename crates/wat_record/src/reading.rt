@@ -169,7 +169,8 @@ fn read_ordinals(alloc: Global, bytes: &[u8]) -> Result<Option<(Ordinals, &[u8])
     }
 }
 
-fn read_table(alloc: Global, bytes: &[u8]) -> Result<Option<(TableDef, &[u8])>, NoMemory>
+/// The definition of a table that the bytes begin with, and the rest behind it; `None` exactly where they begin with none.
+pub fn read_table(alloc: Global, bytes: &[u8]) -> Result<Option<(TableDef, &[u8])>, NoMemory>
     ensures { IfOk result (λ o. MatchOption o (BeginsNone table_bytes IsEncodableTable bytes.now) (λ x. Begins table_bytes IsEncodableTable bytes.now x.0 x.1.now)) }
 {
     let Some((number, rest)) = read_number(bytes) else {
@@ -193,7 +194,8 @@ fn read_table(alloc: Global, bytes: &[u8]) -> Result<Option<(TableDef, &[u8])>, 
     Ok(Some((def, rest)))
 }
 
-fn read_index(alloc: Global, bytes: &[u8]) -> Result<Option<(IndexDef, &[u8])>, NoMemory>
+/// The definition of an index that the bytes begin with, and the rest behind it; `None` exactly where they begin with none.
+pub fn read_index(alloc: Global, bytes: &[u8]) -> Result<Option<(IndexDef, &[u8])>, NoMemory>
     ensures { IfOk result (λ o. MatchOption o (BeginsNone index_bytes IsEncodableIndex bytes.now) (λ x. Begins index_bytes IsEncodableIndex bytes.now x.0 x.1.now)) }
 {
     let Some((number, rest)) = bytes.split_first() else {

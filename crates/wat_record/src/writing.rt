@@ -127,7 +127,8 @@ fn push_columns(columns: &[Column], out: &mut Vec<u8>) -> Result<(), NoMemory>
     Ok(())
 }
 
-fn push_table(def: &TableDef, out: &mut Vec<u8>) -> Result<(), NoMemory>
+/// Adds the bytes of a table's definition. Each of its lists has fewer than 256 items.
+pub fn push_table(def: &TableDef, out: &mut Vec<u8>) -> Result<(), NoMemory>
     requires { IsWritableTable def.now }
     ensures ok { OnOk result (out.new.items ≡ out.old.items ++ table_bytes def.now) }
     ensures encodable { OnOk result (IsEncodableTable def.now) }
@@ -139,7 +140,8 @@ fn push_table(def: &TableDef, out: &mut Vec<u8>) -> Result<(), NoMemory>
     push_counted(def.key.as_slice(), out)
 }
 
-fn push_index(index: &IndexDef, out: &mut Vec<u8>) -> Result<(), NoMemory>
+/// Adds the bytes of an index's definition. Its list of columns has fewer than 256 items, and its number is at least 1.
+pub fn push_index(index: &IndexDef, out: &mut Vec<u8>) -> Result<(), NoMemory>
     requires { IsWritableIndex index.now }
     ensures ok { OnOk result (out.new.items ≡ out.old.items ++ index_bytes index.now) }
     ensures encodable { OnOk result (IsEncodableIndex index.now) }
