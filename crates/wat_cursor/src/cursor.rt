@@ -157,7 +157,7 @@ impl<'a> Cursor<'a> {
             return Err(Fault::Syntax);
         };
         let text = lower_case(alloc, word)?;
-        let Some(name) = Name::new(alloc, text.as_str())? else {
+        let Some(name) = Name::of(text) else {
             return Err(Fault::Syntax);
         };
         self.advance();

@@ -9,7 +9,7 @@ ghost use Rattle.wat_lex.specs.Values.{IsSlice};
 use crate::piece::piece;
 use crate::token::{MAX_TEXT, TokenKind, Tokens, push_token};
 use std::alloc::Global;
-use wat_list::{Items, NoMemory};
+use wat_list::{NoMemory, Reserved};
 
 /// The tokens of a part of a text.
 #[derive(Drop)]
@@ -17,6 +17,14 @@ pub struct Part {
     pub tokens: Tokens,
     /// Where the next token behind the part begins, or the end of the text where there is none.
     pub next: u32,
+}
+
+// An empty list of tokens, with room for what most statements of so many bytes have.
+fn with_room(alloc: Global, len: u32) -> Result<Tokens, NoMemory>
+    ensures { IfOk result (λ ts. ts ≡ []) }
+{
+    let room = (len as usize / 3 + 2).min(64);
+    Ok(Reserved::with_room(alloc, room)?.into_items())
 }
 
 fn push_within(
@@ -66,7 +74,7 @@ pub fn tokens_between(alloc: Global, text: &str, from: u32, to: u32) -> Result<P
 {
     let bytes = text.as_bytes();
     let end = to as usize;
-    let mut found = Items::new(alloc);
+    let mut found = with_room(alloc, to - from)?;
     let mut at = from as usize;
     'pieces: while at < end && at < bytes.len() {
         let (kind, len) = piece(&bytes[at..]);

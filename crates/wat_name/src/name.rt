@@ -1,4 +1,4 @@
-ghost use Rattle.std.specs.Prelude.{◌≡◌, true, false, IfOk, IfSome, MatchOption};
+ghost use Rattle.std.specs.Prelude.{◌≡◌, true, false, IfOk, IfSome, MatchOption, string_bytes};
 ghost use Rattle.wat_word.specs.Words.{is_name};
 
 use std::alloc::Global;
@@ -34,6 +34,18 @@ impl Name {
         }
         let text = String::from_str(alloc, text)?;
         Ok(Some(Name { text }))
+    }
+
+    /// The name that the text is, or None where it is no name. It takes no memory.
+    pub fn of(text: String) -> Option<Self>
+        ensures none { MatchOption result (is_name (string_bytes text) ≡ false) (λ _. is_name (string_bytes text) ≡ true) }
+        ensures same { IfSome result (λ n. n ≡ string_bytes text) }
+    {
+        if is_name(text.as_str()) {
+            Some(Name { text })
+        } else {
+            None
+        }
     }
 
     pub fn as_str(&self) -> &str

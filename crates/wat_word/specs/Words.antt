@@ -59,6 +59,30 @@ abbrev pub spelled_in : List (List ℕ × Keyword) → Keyword → List ℕ
 spelled_in [] w = []
 spelled_in (v ∷ vs) w = if is_same_keyword v.1 w then v.0 else spelled_in vs w
 
+-- where the words stand in the list that begin with this small letter, from one place up to another; for another byte the whole list
+abbrev pub places : ℕ → ℕ × ℕ
+places letter =
+    if letter == 97 then (0, 3) else
+    (if letter == 98 then (3, 6) else
+    (if letter == 99 then (6, 11) else
+    (if letter == 100 then (11, 15) else
+    (if letter == 102 then (15, 17) else
+    (if letter == 103 then (17, 18) else
+    (if letter == 104 then (18, 19) else
+    (if letter == 105 then (19, 27) else
+    (if letter == 107 then (27, 28) else
+    (if letter == 109 then (28, 30) else
+    (if letter == 110 then (30, 33) else
+    (if letter == 111 then (33, 38) else
+    (if letter == 112 then (38, 39) else
+    (if letter == 114 then (39, 43) else
+    (if letter == 115 then (43, 47) else
+    (if letter == 116 then (47, 50) else
+    (if letter == 117 then (50, 51) else
+    (if letter == 118 then (51, 53) else
+    (if letter == 119 then (53, 55) else
+    (0, 55)))))))))))))))))))
+
 -- how a reserved word is spelled, in capitals
 unfoldable pub spelling : Keyword → List ℕ
 spelling = spelled_in reserved

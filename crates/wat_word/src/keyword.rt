@@ -1,4 +1,5 @@
-ghost use Rattle.std.specs.Prelude.{◌≡◌, map, Some, true};
+ghost use Rattle.std.specs.Prelude.{◌≡◌, ◌≤◌, ◌-◌, map, take, drop, slice_index, Some, true};
+ghost use Rattle.std.specs.Char.{to_ascii_lowercase};
 ghost use Rattle.wat_word.specs.Words as spec;
 ghost use Rattle.wat_word.specs.Words.{is_word};
 ghost use Rattle.wat_word.specs.declared.keyword.Keyword.{Keyword};
@@ -158,11 +159,62 @@ fn spelled_in(mut table: &[(&'static str, Keyword)], keyword: Keyword) -> &'stat
     ""
 }
 
+/// Where the words stand in the table that begin with this small letter, or as a capital: from the first place up to the second.
+/// For another byte it is the whole table.
+fn places(letter: u8) -> (usize, usize)
+    ensures places { result ≡ spec.places letter }
+    ensures ordered { result.0 ≤ result.1 }
+    ensures within { result.1 ≤ 55 }
+{
+    match letter {
+        b'a' => (0, 3),
+        b'b' => (3, 6),
+        b'c' => (6, 11),
+        b'd' => (11, 15),
+        b'f' => (15, 17),
+        b'g' => (17, 18),
+        b'h' => (18, 19),
+        b'i' => (19, 27),
+        b'k' => (27, 28),
+        b'm' => (28, 30),
+        b'n' => (30, 33),
+        b'o' => (33, 38),
+        b'p' => (38, 39),
+        b'r' => (39, 43),
+        b's' => (43, 47),
+        b't' => (47, 50),
+        b'u' => (50, 51),
+        b'v' => (51, 53),
+        b'w' => (53, 55),
+        _ => (0, 55),
+    }
+}
+
+// The first byte, in lower case; 0 where there is none.
+fn first_letter(text: &[u8]) -> u8
+    ensures { result ≡ to_ascii_lowercase (slice_index text.now 0) }
+{
+    match text {
+        [] => 0,
+        [first, ..] => first.to_ascii_lowercase(),
+    }
+}
+
+fn read_between(from: usize, to: usize, text: &str) -> Option<Keyword>
+    requires ordered { from ≤ to }
+    requires within { to ≤ 55 }
+    ensures { result ≡ spec.read_by (take (to - from) (drop from spec.reserved)) text.now }
+{
+    read_by(&KEYWORDS[from..to], text)
+}
+
 /// The reserved word that the text spells, whatever the case of its letters.
+#[tactic(auto, using(crate::proofs::Letters::found_at))]
 pub fn keyword_of(text: &str) -> Option<Keyword>
     ensures { result ≡ spec.keyword text.now }
 {
-    read_by(&KEYWORDS, text)
+    let (from, to) = places(first_letter(text.as_bytes()));
+    read_between(from, to, text)
 }
 
 impl Keyword {

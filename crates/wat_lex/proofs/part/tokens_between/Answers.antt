@@ -14,7 +14,7 @@ use Rattle.wat_lex.proofs.part.tokens_between.Goals.{then-pieces-test+else-at-by
 pub pieces-init : goal.pieces-init
 pieces-init c =
     let b : BeginsPart c.args.text.now c.args.from c.args.to = part_begins c.args.text.now c.args.from c.args.to c.requires.begins c.requires.ordered in
-    rw c.as_bytes-bytes.ensures.value (rw c.new-found.ensures (record { behind = omega arith; within = b.most; tokens = b.tokens; next = b.next }))
+    rw c.as_bytes-bytes.ensures.value (rw c.in_ok-found.ensures (record { behind = omega arith; within = b.most; tokens = b.tokens; next = b.next }))
 
 pub pieces-preserved : goal.pieces-preserved
 pieces-preserved c =
