@@ -16,7 +16,7 @@ pub enum Fault {
     NoDatabase,
     /// The log is not empty, so that no database is made.
     Exists,
-    /// The log is no log of rows from `at` on.
+    /// The log is no log of transactions from `at` on.
     Damaged { at: u64 },
     /// The disk failed.
     DiskFault,

@@ -1,5 +1,5 @@
 // The answers of a session, and the transactions that they commit.
-ghost use Rattle.std.specs.Prelude.{◌≡◌, ◌≢◌, ◌+◌, ◌<◌, ◌≤◌, ◌^◌, ◌++◌, [], All, None, Ok, Err, OnOk, OnErr, IfOk, IfErr, map};
+ghost use Rattle.std.specs.Prelude.{◌≡◌, ◌≢◌, ◌+◌, ◌<◌, ◌≤◌, ◌^◌, ◌++◌, [], All, Ok, Err, OnOk, OnErr, IfOk, IfErr, map};
 ghost use Rattle.std.specs.List.{fold};
 ghost use Rattle.wat_disk.specs.Disk.{IsSynced, InFile, SameOthers, EachStop, MakesAtMost};
 ghost use Rattle.wat_faults.specs.Faults.{HasCause};
