@@ -1,10 +1,12 @@
 -- One call of pages behind another.
-use Rattle.std.proofs.Common.{◌≡◌, ◌≢◌, ℕ, ◌+◌, ◌<◌, ◌≤◌, List, length, Option, Some, None, Result, Ok, Err, refl, sym, ◌∙◌, ap, subst, arith}
+use Rattle.std.proofs.Common.{◌≡◌, ◌≢◌, ℕ, ◌+◌, ◌*◌, ◌<◌, ◌≤◌, List, length, Option, Some, None, Result, Ok, Err, refl, sym, ◌∙◌, ap, subst, arith}
 use Rattle.std.specs.Prelude.{IfSome, MatchOption, OnOk, IfOk}
 use Rattle.wat_disk.specs.Disk.{Image, Told, Leaves, EachStop}
 use Rattle.wat_disk.proofs.Stops.{goes_on, stays}
+use Rattle.wat_restore.specs.Opening.{IsMissing}
 use Rattle.wat_restore.specs.Restored.{Checkpoint, OnlyPages}
 use Rattle.wat_restore.specs.Safe.{IsSafe, Covers}
+use Rattle.wat_slot.specs.Cells.{IsCellPage}
 use Rattle.wat_book.specs.Book.{Book, Writes, SameBook}
 use Rattle.wat_images.specs.declared.refusal.PageRefusal.{PageRefusal}
 use Rattle.wat_images.specs.declared.refusal.PageRefusal.TheVariants.{DiskFault, Damaged, PageLimit, Memory}
@@ -105,3 +107,11 @@ goes_all old new a b others limit stored header stops = record { others = others
 
 pub keeps_by : (old new : Told) (b : Pages) → IsPagesOf new b → ((saved : Checkpoint) → IsSafe saved old → IsSafe saved new) → Keeps old new b
 keeps_by old new b known safe = record { known = known; safe = safe }
+
+-- a page that isn't in the files is no row page
+pub cut_short : (refusal : PageRefusal) (files : Image) (page stored : ℕ) (bytes : List ℕ) → IfDamaged refusal (λ file at. (page < stored) × IsMissing files page file at) → IfDamaged refusal (λ file at. length bytes ≢ 4096)
+    → IfDamaged refusal (λ file at. (file ≡ 0) × (at ≡ 4096 * page) × ((cells : List (List ℕ)) → IsCellPage bytes cells → ⊥))
+cut_short DiskFault files page stored bytes missing cut = tt
+cut_short (Damaged file at) files page stored bytes missing cut = (missing.1.in_main, missing.1.place, λ cells is. cut is.whole)
+cut_short (PageLimit count limit) files page stored bytes missing cut = tt
+cut_short Memory files page stored bytes missing cut = tt

@@ -96,8 +96,7 @@ pub fn read_cells<D: Disk>(
     ensures head { SameHead pages.old pages.new }
     ensures goes { D.tells_content → Goes (D.told disk.old) (D.told disk.new) pages.old pages.new }
     ensures keeps { D.tells_content → OnOk result (Keeps (D.told disk.old) (D.told disk.new) pages.new) }
-    ensures damaged { D.tells_content → (saved : Checkpoint) → IsSafe saved (D.told disk.old) → saved.count ≡ stored_of pages.old
-        → IfErr result (λ refusal. IfDamaged refusal (λ file at. (file ≡ 0) × (at ≡ 4096 * page) × ((cells : List (List ℕ)) → IsCellPage (page_in (D.told disk.old) pages.old page) cells → ⊥))) }
+    ensures damaged { D.tells_content → IfErr result (λ refusal. IfDamaged refusal (λ file at. (file ≡ 0) × (at ≡ 4096 * page) × ((cells : List (List ℕ)) → IsCellPage (page_in (D.told disk.old) pages.old page) cells → ⊥))) }
     ensures limited { IfErr result (λ refusal. IfPageLimit refusal (λ count limit. ⊥)) }
     ensures cause { HasCause (D.told disk.old).faults (D.told disk.new).faults (result ≡ Err PageRefusal.DiskFault) }
 {

@@ -512,6 +512,7 @@ impl Heap {
         requires known { D.tells_content → IsPagesOf (D.told disk.old) pages.old }
 
         ensures row { D.tells_content → (owners : Owners) (free : List ℕ) (defs : Defs) (rows : RowMap) → IsHeld self.now.directory (book_of (D.told disk.old) pages.old) owners free defs rows → IfOk result (λ row. row ≡ rows table key.now) }
+        ensures readable { D.tells_content → (owners : Owners) (free : List ℕ) (defs : Defs) (rows : RowMap) → IsHeld self.now.directory (book_of (D.told disk.old) pages.old) owners free defs rows → IfErr result (λ refusal. IfDamaged refusal (λ file at. ⊥)) }
 
         // All pages are as before.
         ensures same { D.tells_content → OnOk result (SameBook (book_of (D.told disk.old) pages.old) (book_of (D.told disk.new) pages.new)) }
@@ -557,7 +558,7 @@ impl Heap {
 
         ensures taken { D.tells_content → (taken : Section) (rows : RowMap) → Holds self.old.directory taken (def_in defs.now) rows → taken page ≡ None
             → OnOk result (Takes (def_in defs.now) (page_in (D.told disk.old) pages.old page) page taken rows self.new.directory) }
-        ensures damaged { D.tells_content → (saved : Checkpoint) → IsSafe saved (D.told disk.old) → saved.count ≡ stored_of pages.old → (taken : Section) (rows : RowMap) → Holds self.old.directory taken (def_in defs.now) rows → taken page ≡ None
+        ensures damaged { D.tells_content → (taken : Section) (rows : RowMap) → Holds self.old.directory taken (def_in defs.now) rows → taken page ≡ None
             → IfErr result (λ refusal. IfDamaged refusal (λ file at. (file ≡ 0) × (at ≡ 4096 * page) × ((after : RowMap) → IsRowPage (def_in defs.now) (page_in (D.told disk.old) pages.old page) rows after → ⊥))) }
         ensures pages { D.tells_content → (taken : Section) (rows : RowMap) → Holds self.old.directory taken (def_in defs.now) rows → taken page ≡ None → OnOk result (row_pages self.new.directory ≡ row_pages self.old.directory + 1) }
 

@@ -381,5 +381,13 @@ unfolding page_in
 fresh_in told pages page bytes empty stands =
     ap (λ (l : List (ℕ × List ℕ)). unwrap_or (lookup (nat_eq page) l) (stored_page told.content page)) empty ∙ stands_is told.content page bytes stands
 
+-- a page that no call has changed
+pub stored_in : (told : Told) (files : Image) (pages : Pages) (page : ℕ) → pages.changed.entries ≡ [] → SameFiles files told.content → page_in told pages page ≡ stored_page files page
+unfolding page_in
+stored_in told files pages page empty same =
+    ap (λ (l : List (ℕ × List ℕ)). unwrap_or (lookup (nat_eq page) l) (stored_page told.content page)) empty
+    ∙ ap (λ (l : List ℕ). unwrap_or (lookup (nat_eq page) (images_in l)) (page_at (told.content 0) page)) (same 1)
+    ∙ ap (λ (l : List ℕ). unwrap_or (lookup (nat_eq page) (images_in (files 1))) (page_at l page)) (same 0)
+
 pub head_same : (old new : Image) (head : Head) → SameFiles old new → IsHeadIn old head → IsHeadIn new head
 head_same old new head same is = record { page = is.page; stands = stand_same old new 0 is.page same is.stands; is = is.is }

@@ -6,7 +6,7 @@ ghost use Rattle.wat_faults.specs.Faults.{HasCause};
 ghost use Rattle.wat_gate.specs.Bodies.{bodies};
 ghost use Rattle.wat_restore.specs.Head.{Head};
 ghost use Rattle.wat_restore.specs.Opening.{IsHeadIn, FailsAt, HasNoHead, IsMissing};
-ghost use Rattle.wat_restore.specs.Restored.{images_in, StandsIn, Checkpoint, OnlyPages};
+ghost use Rattle.wat_restore.specs.Restored.{images_in, IsImageLog, StandsIn, stored_page, Checkpoint, OnlyPages};
 ghost use Rattle.wat_restore.specs.Safe.{IsSafe, Covers, CoversEither};
 ghost use Rattle.wat_book.specs.Book.{next_in, page_taken, Owners, IsOwned, TakesPage, GivesPage, Writes, SameBook, SameButHeader};
 ghost use Rattle.wat_images.specs.Reading.{AreWhole, SameImages};
@@ -90,6 +90,11 @@ impl Pages {
 
         // Each page that is in the files reads as it is there.
         ensures pages { D.tells_content → IfOk result (λ pages. (page : ℕ) (bytes : List ℕ) → StandsIn (D.told disk.old).content page bytes → page_in (D.told disk.new) pages page ≡ bytes) }
+
+        ensures log { D.tells_content → OnOk result (IsImageLog ((D.told disk.old).content 1)) }
+
+        // A page that isn't in the files reads as what they have at its place.
+        ensures stored { D.tells_content → IfOk result (λ pages. (page : ℕ) → page_in (D.told disk.new) pages page ≡ stored_page (D.told disk.old).content page) }
 
         ensures damaged { D.tells_content → IfErr result (λ refusal. IfDamaged refusal (FailsAt (D.told disk.old).content)) }
         ensures limited { IfErr result (λ refusal. IfPageLimit refusal (λ count limit. ⊥)) }

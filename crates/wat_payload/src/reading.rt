@@ -103,6 +103,7 @@ pub fn read_chain<D: Disk>(
     requires once { IsDistinct nat_eq met.now }
 
     ensures read { D.tells_content → IfOk result (λ chain. IsReadChain (all_pages (book_of (D.told disk.old) pages.old)) met.now first chain.pages.items chain.payload.items) }
+    ensures once { IfOk result (λ chain. IsDistinct nat_eq (met.now ++ chain.pages.items)) }
     ensures numbered { IfOk result (λ chain. All (λ page. (0 < page) × (page < count_of pages.new)) chain.pages.items) }
     ensures damaged { D.tells_content → IfErr result (λ refusal. IfDamaged refusal (λ file at. (file ≡ 0) × (here : ℕ) × (at ≡ 4096 * here) × BreaksAt (all_pages (book_of (D.told disk.old) pages.old)) met.now first here)) }
 

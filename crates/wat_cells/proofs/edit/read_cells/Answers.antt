@@ -1,6 +1,7 @@
 use Rattle.std.proofs.Common.{◌≡◌, sym, subst, arith}
 use Rattle.wat_slot.specs.Cells.{IsCellPage}
-use Rattle.wat_cells.proofs.Then.{goes_nowhere, goes_by, keeps_by, some_of}
+use Rattle.wat_pages.specs.Pages.{page_in}
+use Rattle.wat_cells.proofs.Then.{cut_short, goes_nowhere, goes_by, keeps_by, some_of}
 use Rattle.wat_cells.proofs.edit.read_cells.Goals as goal
 
 pub returns-in_err-bytes-clause-goes : goal.returns-in_err-bytes-clause-goes
@@ -29,3 +30,8 @@ pub returns-in-Ok-Some-clause-fit : goal.returns-in-Ok-Some-clause-fit
 returns-in-Ok-Some-clause-fit g c =
     let is = some_of (IsCellPage c.read_page.new.into) c.in-Ok-Some.field-0 c.in-Ok-Some.cells c.in-Ok-Some.field-0-is c.in-Ok-Some.ensures.some in
     omega (arith, is.fit)
+
+pub returns-in-Err-clause-damaged : goal.returns-in-Err-clause-damaged
+returns-in-Err-clause-damaged g c tells =
+    let told = g.D.Disk.told c.args.disk.now in
+    cut_short c.in-Err.refusal told.content c.args.page _ (page_in told c.args.pages.now c.args.page) (c.in-Err.ensures.damaged tells) (c.in-Err.ensures.cut tells)

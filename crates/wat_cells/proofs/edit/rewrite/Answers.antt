@@ -24,7 +24,7 @@ returns-in-Ok-write_cells-clause-keeps g c tells =
 
 pub returns-in-Err-clause-undamaged : goal.returns-in-Err-clause-undamaged
 returns-in-Err-clause-undamaged g c tells saved safe count cells are can =
-    damaged_to c.in-Err.refusal _ (λ file at. ⊥) (λ file at not. not.2 cells are) (c.in-Err.ensures.damaged tells saved safe count)
+    damaged_to c.in-Err.refusal _ (λ file at. ⊥) (λ file at not. not.2 cells are) (c.in-Err.ensures.damaged tells)
 
 pub returns-in-Ok-false-clause-undamaged : goal.returns-in-Ok-false-clause-undamaged
 returns-in-Ok-false-clause-undamaged g c tells saved safe count cells are can =

@@ -42,15 +42,15 @@ returns-in_default-clause-keeps g c tells = keeps_still (g.D.Disk.told c.args.di
 pub returns-in-Err-clause-goes : goal.returns-in-Err-clause-goes
 returns-in-Err-clause-goes g c tells = goes_nowhere (g.D.Disk.told c.args.disk.now) c.args.pages.now
 
-pub returns-in-Err-clause-undamaged : goal.returns-in-Err-clause-undamaged
-returns-in-Err-clause-undamaged g c tells saved safe count owners free defs rows h =
+pub returns-in-Err-clause-readable : goal.returns-in-Err-clause-readable
+returns-in-Err-clause-readable g c tells owners free defs rows h =
     let f = found c.args.self.now.directory (book_of (g.D.Disk.told c.args.disk.now) c.args.pages.now) owners free defs rows h c.args.table c.args.key.now c.in-Some.place (sym c.in-Some.ensures) in
     absurd (c.in-Err.ensures.refused f.page.not_first f.page.below)
 
-pub returns-in-Err-read_cells-clause-undamaged : goal.returns-in-Err-read_cells-clause-undamaged
-returns-in-Err-read_cells-clause-undamaged g c tells saved safe count owners free defs rows h =
+pub returns-in-Err-read_cells-clause-readable : goal.returns-in-Err-read_cells-clause-readable
+returns-in-Err-read_cells-clause-readable g c tells owners free defs rows h =
     let f = found c.args.self.now.directory (book_of (g.D.Disk.told c.args.disk.now) c.args.pages.now) owners free defs rows h c.args.table c.args.key.now c.in-Some.place (sym c.in-Some.ensures) in
-    damaged_to c.in-Err-read_cells.refusal _ (λ file at. ⊥) (λ file at not. not.2 (cells_of f.page.list) f.page.are) (c.in-Err-read_cells.ensures.damaged tells saved safe count)
+    damaged_to c.in-Err-read_cells.refusal _ (λ file at. ⊥) (λ file at not. not.2 (cells_of f.page.list) f.page.are) (c.in-Err-read_cells.ensures.damaged tells)
 
 pub returns-in-Ok-Some-clause-row : goal.returns-in-Ok-Some-clause-row
 returns-in-Ok-Some-clause-row g c tells owners free defs rows h =
@@ -58,8 +58,17 @@ returns-in-Ok-Some-clause-row g c tells owners free defs rows h =
     let are : IsCellPage (page_in (g.D.Disk.told c.args.disk.now) c.args.pages.now c.in-Some.place.page) c.as_slice.result.now = subst (IsCellPage (page_in (g.D.Disk.told c.args.disk.now) c.args.pages.now c.in-Some.place.page)) (sym c.as_slice.ensures) (c.in-Ok-read_cells.ensures.cells tells) in
     sym c.in-Ok-Some.field-0-is ∙ reads c.args.self.now.directory (book_of (g.D.Disk.told c.args.disk.now) c.args.pages.now) owners free defs rows h c.args.table c.args.key.now c.in-Some.place f c.as_slice.result.now are c.in-Ok-Some.field-0 c.in-Ok-Some.ensures
 
-pub returns-in-Ok-None-clause-undamaged : goal.returns-in-Ok-None-clause-undamaged
-returns-in-Ok-None-clause-undamaged g c tells saved safe count owners free defs rows h =
+pub returns-in-Ok-None-clause-readable : goal.returns-in-Ok-None-clause-readable
+returns-in-Ok-None-clause-readable g c tells owners free defs rows h =
     let f = found c.args.self.now.directory (book_of (g.D.Disk.told c.args.disk.now) c.args.pages.now) owners free defs rows h c.args.table c.args.key.now c.in-Some.place (sym c.in-Some.ensures) in
     let are : IsCellPage (page_in (g.D.Disk.told c.args.disk.now) c.args.pages.now c.in-Some.place.page) c.as_slice.result.now = subst (IsCellPage (page_in (g.D.Disk.told c.args.disk.now) c.args.pages.now c.in-Some.place.page)) (sym c.as_slice.ensures) (c.in-Ok-read_cells.ensures.cells tells) in
     absurd (reads_none c.args.self.now.directory (book_of (g.D.Disk.told c.args.disk.now) c.args.pages.now) owners free defs rows h c.args.table c.args.key.now c.in-Some.place f (sym c.in-Ok-None.field-0-is ∙ reads c.args.self.now.directory (book_of (g.D.Disk.told c.args.disk.now) c.args.pages.now) owners free defs rows h c.args.table c.args.key.now c.in-Some.place f c.as_slice.result.now are c.in-Ok-None.field-0 c.in-Ok-None.ensures))
+
+pub returns-in-Err-clause-undamaged : goal.returns-in-Err-clause-undamaged
+returns-in-Err-clause-undamaged g c tells saved safe count owners free defs rows h = returns-in-Err-clause-readable g c tells owners free defs rows h
+
+pub returns-in-Err-read_cells-clause-undamaged : goal.returns-in-Err-read_cells-clause-undamaged
+returns-in-Err-read_cells-clause-undamaged g c tells saved safe count owners free defs rows h = returns-in-Err-read_cells-clause-readable g c tells owners free defs rows h
+
+pub returns-in-Ok-None-clause-undamaged : goal.returns-in-Ok-None-clause-undamaged
+returns-in-Ok-None-clause-undamaged g c tells saved safe count owners free defs rows h = returns-in-Ok-None-clause-readable g c tells owners free defs rows h

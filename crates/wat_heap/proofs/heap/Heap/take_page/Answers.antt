@@ -18,12 +18,12 @@ pub returns-in-Err-clause-goes : goal.returns-in-Err-clause-goes
 returns-in-Err-clause-goes g c tells = goes_nowhere (g.D.Disk.told c.args.disk.now) c.args.pages.now
 
 pub returns-in-Err-clause-damaged : goal.returns-in-Err-clause-damaged
-returns-in-Err-clause-damaged g c tells saved safe count taken rows h none = absurd (c.in-Err.ensures.refused c.requires.not_header c.requires.page)
+returns-in-Err-clause-damaged g c tells taken rows h none = absurd (c.in-Err.ensures.refused c.requires.not_header c.requires.page)
 
 pub returns-in-Err-read_cells-clause-damaged : goal.returns-in-Err-read_cells-clause-damaged
-returns-in-Err-read_cells-clause-damaged g c tells saved safe count taken rows h none =
+returns-in-Err-read_cells-clause-damaged g c tells taken rows h none =
     damaged_to c.in-Err-read_cells.refusal _ (λ file at. (file ≡ 0) × (at ≡ 4096 * c.args.page) × ((after : RowMap) → IsRowPage (def_in c.args.defs.now) (page_in (g.D.Disk.told c.args.disk.now) c.args.pages.now c.args.page) rows after → ⊥))
-    (λ file at not. (not.0, not.1, λ after is. not.2 is.cells is.page)) (c.in-Err-read_cells.ensures.damaged tells saved safe count)
+    (λ file at not. (not.0, not.1, λ after is. not.2 is.cells is.page)) (c.in-Err-read_cells.ensures.damaged tells)
 
 pub returns-in-Ok-true-clause-taken : goal.returns-in-Ok-true-clause-taken
 returns-in-Ok-true-clause-taken g c tells taken rows h none =
@@ -34,7 +34,7 @@ returns-in-Ok-true-clause-taken g c tells taken rows h none =
     record { after = list.after; is = record { cells = c.as_slice.result.now; page = are; are = list.are }; holds = list.holds (page_in (g.D.Disk.told c.args.disk.now) c.args.pages.now c.args.page) are }
 
 pub returns-in-Ok-false-clause-damaged : goal.returns-in-Ok-false-clause-damaged
-returns-in-Ok-false-clause-damaged g c tells saved safe count taken rows h none =
+returns-in-Ok-false-clause-damaged g c tells taken rows h none =
     let are : IsCellPage (page_in (g.D.Disk.told c.args.disk.now) c.args.pages.now c.args.page) c.as_slice.result.now = subst (IsCellPage (page_in (g.D.Disk.told c.args.disk.now) c.args.pages.now c.args.page)) (sym c.as_slice.ensures) (c.in-Ok-read_cells.ensures.cells tells) in
     damaged_to c.damaged.result _ (λ file at. (file ≡ 0) × (at ≡ 4096 * c.args.page) × ((after : RowMap) → IsRowPage (def_in c.args.defs.now) (page_in (g.D.Disk.told c.args.disk.now) c.args.pages.now c.args.page) rows after → ⊥))
     (λ file at there. (

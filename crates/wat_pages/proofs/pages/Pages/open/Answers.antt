@@ -5,7 +5,7 @@ use Rattle.wat_restore.specs.Head.{Head}
 use Rattle.wat_restore.specs.Opening.{IsHeadIn, FailsAt}
 use Rattle.wat_restore.specs.Restored.{IsImageLog}
 use Rattle.wat_images.proofs.Writing.{if_damaged}
-use Rattle.wat_pages.proofs.Changed.{fresh_in, stand_same, head_same}
+use Rattle.wat_pages.proofs.Changed.{fresh_in, stored_in, stand_same, head_same}
 use Rattle.wat_pages.proofs.pages.Pages.open.Goals as goal
 
 pub returns-in-Ok-read_header-clause-pages : goal.returns-in-Ok-read_header-clause-pages
@@ -14,6 +14,16 @@ returns-in-Ok-read_header-clause-pages g c tells page bytes stands =
     let new = (g.D.Disk.told c.read_header.new.disk).content in
     let same : SameFiles old new = λ file. c.read_header.ensures.content file ∙ c.open_images.ensures.content file in
     fresh_in (g.D.Disk.told c.read_header.new.disk) _ page bytes c.new-in-Ok-read_header.ensures.empty (stand_same old new page bytes same stands)
+
+pub returns-in-Ok-read_header-clause-log : goal.returns-in-Ok-read_header-clause-log
+returns-in-Ok-read_header-clause-log g c tells = subst IsImageLog (c.open_images.ensures.content 1) (c.in-Ok.ensures.opened tells).log
+
+pub returns-in-Ok-read_header-clause-stored : goal.returns-in-Ok-read_header-clause-stored
+returns-in-Ok-read_header-clause-stored g c tells page =
+    let old = (g.D.Disk.told c.args.disk.now).content in
+    let new = (g.D.Disk.told c.read_header.new.disk).content in
+    let same : SameFiles old new = λ file. c.read_header.ensures.content file ∙ c.open_images.ensures.content file in
+    stored_in (g.D.Disk.told c.read_header.new.disk) old _ page c.new-in-Ok-read_header.ensures.empty same
 
 pub returns-in-Ok-read_header-clause-stops : goal.returns-in-Ok-read_header-clause-stops
 returns-in-Ok-read_header-clause-stops g c = both_same _ _ _ c.open_images.ensures.stops c.read_header.ensures.stops
