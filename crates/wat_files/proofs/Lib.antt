@@ -1,6 +1,7 @@
+pub mod Finding
 pub mod Holding
+pub mod Lawful
 pub mod Opening
 pub mod Paths
-pub mod Finding
 pub mod Replaying
 pub mod Walking

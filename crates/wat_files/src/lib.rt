@@ -4,4 +4,4 @@
 
 mod laws;
 
-pub use laws::{start_law, walk_laws};
+pub use laws::{formed_laws, start_law, walk_laws};

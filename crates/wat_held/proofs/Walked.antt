@@ -16,20 +16,10 @@ use Rattle.wat_schema.specs.Tables.{Table, Tables, listing_of, catalog_of, table
 use Rattle.wat_rows.specs.Rows.{Row, NamedRow, RowMap, Defs, cells_of, names_of, row_named, times, IsRowOf}
 use Rattle.wat_rows.specs.Pages.{Layout, PlaceMap, rows_on, Stands, is_at, row_where, AreNamed, AreRowPages, of_rows}
 use Rattle.wat_files.specs.Rows.{Placed, cell_of, IsPlaced, IsRowPage, HasRows, emptied, AddsPage, AddsPages, pages_but}
+use Rattle.wat_files.proofs.Lawful.{none_wrong, emptied_schema}
 use Rattle.wat_held.proofs.Inserting.{Good, placed_of, none_named, PutAll, put_all}
 
 -- ---- the schema without rows
-
-same_listings : (xs : List Listing) → map listing_of (map (λ (x : Listing). record { def = x.def; indexes = x.indexes; rows = [] }) xs) ≡ xs
-same_listings [] = refl
-same_listings (x ∷ xs) = ap (λ (rest : List Listing). x ∷ rest) (same_listings xs)
-
-none_wrong : (xs : List Listing) → list_all is_table (map (λ (x : Listing). record { def = x.def; indexes = x.indexes; rows = [] }) xs) ≡ true
-none_wrong [] = refl
-none_wrong (x ∷ xs) = none_wrong xs
-
-emptied_schema : (schema : Catalog) → catalog_of (emptied schema) ≡ schema
-emptied_schema schema = ap (λ (tables : List Listing). record { tables = tables; next = schema.next }) (same_listings schema.tables)
 
 pub good_emptied : (schema : Catalog) → in_order schema ≡ true → Good schema (emptied schema)
 good_emptied schema order = record {

@@ -3,7 +3,7 @@ use Rattle.std.specs.Prelude.{◌≡◌, ◌↔◌, ℕ, ◌<◌, ◌==◌, nat_
 use Rattle.std.specs.List.{list_any}
 use Rattle.wat_disk.specs.Disk.{Image}
 use Rattle.wat_restore.specs.Head.{Head}
-use Rattle.wat_restore.specs.Restored.{StandsIn}
+use Rattle.wat_restore.specs.Restored.{StandsIn, stored_page}
 use Rattle.wat_book.specs.Book.{Book, Owners, nobody, header, section, IsOwned}
 use Rattle.wat_book.specs.Chains.{HoldsPayload}
 use Rattle.wat_rows.specs.Pages.{of_rows}
@@ -31,3 +31,7 @@ pub record ReadsAs (book : Book) (files : Image) (head : Head) : Type 0 where
   pub count : book.count ≡ head.count
   pub free : book.first_free ≡ head.free
   pub pages : (page : ℕ) (bytes : List ℕ) → StandsIn files page bytes → book.page page ≡ bytes
+
+-- Each page below the count has the bytes that the files have at its place, whole or not.
+abbrev pub HasStored : Book → Image → Type 0
+HasStored book files = (page : ℕ) → page < book.count → book.page page ≡ stored_page files page

@@ -3,14 +3,14 @@ ghost use Rattle.wat_disk.specs.Disk.{Image};
 ghost use Rattle.wat_restore.specs.Head.{Head, IsHead};
 ghost use Rattle.wat_restore.specs.Restored.{Checkpoint};
 ghost use Rattle.wat_book.specs.Book.{Book, Owners};
-ghost use Rattle.wat_book.specs.Chains.{all_pages};
+ghost use Rattle.wat_book.specs.Chains.{all_pages, IsReadChain, BreaksAt};
 ghost use Rattle.wat_replay.specs.State.{State};
 ghost use Rattle.wat_files.specs.Formed.{HasHeader, Stands};
 ghost use Rattle.wat_files.specs.Pages.{first_pages};
 ghost use Rattle.wat_keeping.specs.Durable.{Saves};
 ghost use Rattle.wat_files.specs.Chains.{Chains, HasChains};
 ghost use Rattle.wat_held.specs.Held.{HoldsState, IsHeadOf, HasPagesOf};
-ghost use Rattle.wat_held.specs.Owning.{AreOwned, ReadsAs};
+ghost use Rattle.wat_held.specs.Owning.{AreOwned, ReadsAs, HasStored};
 
 /// Where the objects hold a state on their own pages, all pages together stand for it, by a header that tells their count and
 /// their first free page. So a checkpoint that has such a header, and all other pages as they are, saves the state.
@@ -29,4 +29,11 @@ pub fn owned_law()
 pub fn opened_law()
     ensures stands { (files : Image) (head : Head) (s : State) (book : Book) → HasHeader files head → Stands (first_pages files head.count) head s → ReadsAs book files head → Stands (all_pages book) head s }
     ensures owned { (files : Image) (head : Head) (s : State) (book : Book) → HasHeader files head → (stands : Stands (first_pages files head.count) head s) → ReadsAs book files head → AreOwned book head stands.chains }
+{}
+
+/// A chain that is read of pages is one of the files that they are stored in, and where it breaks it breaks there: at the
+/// same page, also where this page isn't in the files.
+pub fn linked_law()
+    ensures reads { (book : Book) (files : Image) → HasStored book files → (met : List ℕ) (first : ℕ) (list payload : List ℕ) → IsReadChain (all_pages book) met first list payload → IsReadChain (first_pages files book.count) met first list payload }
+    ensures breaks { (book : Book) (files : Image) → HasStored book files → (met : List ℕ) (first here : ℕ) → BreaksAt (all_pages book) met first here → BreaksAt (first_pages files book.count) met first here }
 {}

@@ -4,4 +4,4 @@
 
 mod laws;
 
-pub use laws::{held_laws, opened_law, owned_law};
+pub use laws::{held_laws, linked_law, opened_law, owned_law};
