@@ -1,0 +1,10 @@
+pub mod Answering
+pub mod Asking
+pub mod Cases
+pub mod Changing
+pub mod Fresh
+pub mod Making
+pub mod State
+pub mod Statements
+pub mod Step
+pub mod Visiting

@@ -1,0 +1,6 @@
+pub mod Beginning
+pub mod Begun
+pub mod Same
+pub mod Serially
+pub mod Stopped
+pub mod Updated

@@ -1,0 +1,72 @@
+-- The core stays tied where a step gives one connection's state anew.
+use Rattle.std.proofs.Common.{◌≡◌, ℕ, Bool, true, false, ◌==◌, if◌then◌else◌, List, Option, Some, None, refl, subst, eqb-true}
+use Rattle.wat_locks.specs.declared.want.Want.{Want}
+use Rattle.wat_scans.specs.Running.{Run}
+use Rattle.wat_steps.specs.State.{ConnectionState, CoreState, schema_of, with_connection}
+use Rattle.wat_steps.specs.Answering.{IsSame}
+use Rattle.wat_steps.specs.Asking.{asking}
+use Rattle.wat_tied.specs.Tied.{AreStanding, standing_in, IsIdle, GoesWith, Ghost, Ties, IsTied}
+use Rattle.wat_tied.proofs.Same.{same_ties}
+
+-- what holds of this connection's new state and of the others' old ones holds of each
+pub each : (P : ℕ → ConnectionState → Type 0) (e : CoreState) (c : ℕ) (k : ConnectionState) → P c k → ((d : ℕ) → P d (e.connections d)) → (d : ℕ) → P d ((with_connection c k e).connections d)
+each P e c k new old d = by (c == d) refl
+  where
+    by : (b : Bool) → (c == d) ≡ b → P d (if b then k else e.connections d)
+    by true is = subst (λ (x : ℕ). P x k) (eqb-true c d is) new
+    by false is = old d
+
+-- what the ties say of a connection
+pub record IsTiedConnection (e : CoreState) (g : Ghost) (c : ℕ) (k : ConnectionState) : Type 0 where
+  pub standing : AreStanding (schema_of e) (standing_in k.transaction k.work) (g.state.conns c).standing
+  pub idle : IsIdle (g.state.conns c) (g.entries c) (g.work c) k.transaction
+  pub works : e.stop ≡ None → GoesWith (schema_of e) k k.work (g.work c)
+
+pub with_tied : (e : CoreState) (g : Ghost) (c : ℕ) (k : ConnectionState) → Ties e g → IsTiedConnection e g c k → Ties (with_connection c k e) g
+with_tied e g c k ties new = record {
+  schema = ties.schema;
+  kept = ties.kept;
+  relates = record { scheme = ties.relates.scheme; now = ties.relates.now; base = ties.relates.base; locks = ties.relates.locks; vacant = ties.relates.vacant };
+  log = ties.log;
+  standing = each (λ d x. AreStanding (schema_of e) (standing_in x.transaction x.work) (g.state.conns d).standing) e c k new.standing ties.standing;
+  idle = each (λ d x. IsIdle (g.state.conns d) (g.entries d) (g.work d) x.transaction) e c k new.idle ties.idle;
+  parts = ties.parts;
+  serial = ties.serial;
+  works = λ going. each (λ d x. GoesWith (schema_of e) x x.work (g.work d)) e c k (new.works going) (ties.works going);
+}
+
+-- ---- waiting
+
+goes_asking : (e : CoreState) (k : ConnectionState) (wants : List Want) (work : Option Run) (g : Ghost) (c : ℕ) → GoesWith (schema_of e) k work (g.work c) → GoesWith (schema_of e) (record k { request = Some wants }) work (g.work c)
+goes_asking e k wants None g c h = h
+goes_asking e k wants (Some run) g c h = record {
+  span = h.span;
+  more = h.more;
+  first = h.first;
+  written = h.written;
+  read = h.read;
+  statement = h.statement;
+  checked = h.checked;
+  stepped = h.stepped;
+  level = h.level;
+  visits = h.visits;
+  going = h.going;
+  reads = h.reads;
+  reading = h.reading;
+  at_three = h.at_three;
+  recorded = h.recorded;
+  has_transaction = h.has_transaction;
+}
+
+pub waiting_tied : (e after : CoreState) (c : ℕ) (wants : List Want) → IsTied e → IsSame (asking c wants e) after → IsTied after
+waiting_tied e after c wants tied same = record {
+  ghost = tied.ghost;
+  ties =
+      let k : ConnectionState = record (e.connections c) { request = Some wants } in
+      same_ties (with_connection c k e) after tied.ghost same
+      (with_tied e tied.ghost c k tied.ties (record {
+        standing = tied.ties.standing c;
+        idle = tied.ties.idle c;
+        works = λ going. goes_asking e (e.connections c) wants (e.connections c).work tied.ghost c (tied.ties.works going c);
+      }));
+}

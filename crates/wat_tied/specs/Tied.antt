@@ -1,0 +1,156 @@
+-- How the state of the core is tied to a state of the law of isolation.
+use Rattle.std.specs.Prelude.{◌≡◌, ℕ, nat_le, true, is_some, List, [], ◌∷◌, ◌++◌, map, reverse, Option, Some, None, Ok}
+use Rattle.wat_list.specs.Has.{Has}
+use Rattle.wat_value.specs.declared.change.Change.{Change}
+use Rattle.wat_value.specs.Changes.{RowName, row_before, row_after}
+use Rattle.wat_ast.specs.declared.statement.Statement.{Statement}
+use Rattle.wat_schema.specs.Catalog.{Catalog}
+use Rattle.wat_schema.specs.Stored.{IsCatalog}
+use Rattle.wat_schema.specs.Tables.{Row, Tables, inverse, apply_all}
+use Rattle.wat_parse.specs.declared.script.Span.{Span}
+use Rattle.wat_parse.specs.Parsing.{parsed_at}
+use Rattle.wat_rules.specs.Check.{check}
+use Rattle.wat_meaning.specs.Standing.{change_fits}
+use Rattle.wat_isolation.specs.Logs.{Item, Item.Saw, Item.Did, Item.Looked, Item.Peeked, Alone, view}
+use Rattle.wat_isolation.specs.Machine as law
+use Rattle.wat_isolation.specs.Kept.{Kept}
+use Rattle.wat_isolation.specs.Naming.{scheme_of}
+use Rattle.wat_isolation.specs.Sql.{sql}
+use Rattle.wat_isolation.specs.Vacant as vacancy
+use Rattle.wat_protocol.specs.Locked.{AreHeld}
+use Rattle.wat_scans.specs.Look.{IsOf}
+use Rattle.wat_scans.specs.Running.{Run, items_of, row_changed}
+use Rattle.wat_scans.specs.Told.{IsStepped, IsUnderWay}
+use Rattle.wat_history.specs.Connection.{Part}
+use Rattle.wat_history.specs.History.{Commit}
+use Rattle.wat_history.specs.Serial.{Means, Serial}
+use Rattle.wat_steps.specs.State.{OpenTransaction, ConnectionState, VacantKey, CoreState, schema_of}
+
+-- ---- rows, locks and vacant keys
+
+abbrev pub left_of : VacantKey → vacancy.VacantKey sql
+left_of v = record { by = v.conn; index = v.index; key = v.key }
+
+-- The same rows now and after the commits, the locks of the law among the long ones that are held, and the vacant keys as they are kept.
+pub record Relates (e : CoreState) (s : law.State sql) : Type 0 where
+  pub scheme : s.scheme ≡ scheme_of (schema_of e)
+  pub now : IsOf (schema_of e) s.now e.now
+  pub base : IsOf (schema_of e) s.base e.committed
+  pub locks : AreHeld s e.held
+  pub vacant : vacancy.IsVacant sql s (map left_of e.vacant)
+
+-- ---- changes that stand
+
+-- the rows that the change leaves, and those that its inverse leaves, fit
+pub record IsFormed (c : Catalog) (change : Change) : Type 0 where
+  pub after : change_fits c change ≡ true
+  pub before : change_fits c (inverse change) ≡ true
+
+abbrev pub standing_as : Catalog → Change → law.Standing sql
+standing_as c change = record { row = row_changed c change; was = row_before change; became = row_after change }
+
+-- the changes that stand here are those that stand in the law, the last one first
+pub record AreStanding (c : Catalog) (changes : List Change) (standing : List (law.Standing sql)) : Type 0 where
+  pub formed : (change : Change) → Has change changes → IsFormed c change
+  pub same : standing ≡ map (standing_as c) changes
+
+abbrev pub stood_in : Option OpenTransaction → List Change
+stood_in None = []
+stood_in (Some t) = t.standing
+
+abbrev pub made_in : Option Run → List Change
+made_in None = []
+made_in (Some run) = run.made
+
+-- all changes of a connection that stand, the last one first
+abbrev pub standing_in : Option OpenTransaction → Option Run → List Change
+standing_in transaction work = reverse (stood_in transaction ++ made_in work)
+
+-- ---- entries
+
+-- an entry of an open transaction with its statement, and what was recorded of it, the last item first
+pub record RecordedPart : Type 0 where
+  pub part : Part
+  pub items : List (Item sql)
+
+-- Whatever tables what was recorded of an entry answers by: it means what it answers over them, and its acts make of them what was recorded.
+pub record IsDetermined (c : Catalog) (p : RecordedPart) : Type 0 where
+  pub means : (f : RowName → Option Row) (t : Tables) → IsOf c f t → Alone sql (scheme_of c) f p.items → Means 3 t p.part
+  pub effect : (f : RowName → Option Row) (t : Tables) → IsOf c f t → Alone sql (scheme_of c) f p.items
+      → (after : Tables) × (apply_all p.part.entry.acts t ≡ Some after) × IsOf c (view sql f p.items) after
+
+-- the items of these entries, the last entry being first
+abbrev pub items_in : List RecordedPart → List (Item sql)
+items_in [] = []
+items_in (p ∷ earlier) = p.items ++ items_in earlier
+
+-- the entries in their order
+abbrev pub parts_in : List RecordedPart → List Part
+parts_in [] = []
+parts_in (p ∷ earlier) = parts_in earlier ++ p.part ∷ []
+
+-- ---- statements under way
+
+-- rows that were read, and nothing else
+abbrev pub AreReads : List (Item sql) → Type 0
+AreReads [] = Unit {0}
+AreReads (Saw scan ∷ items) = AreReads items
+AreReads (Peeked r found ∷ items) = AreReads items
+AreReads (Did r before after ∷ items) = ⊥
+AreReads (Looked r found ∷ items) = ⊥
+
+-- The statement under way is the first that is left, as its text was read and checked. Recorded of it is what it read, at level 3 its visits, and
+-- then its changes.
+pub record IsGoing (c : Catalog) (k : ConnectionState) (run : Run) (items : List (Item sql)) : Type 0 where
+  pub span : Span
+  pub more : List Span
+  pub first : k.left ≡ span ∷ more
+  pub written : Statement
+  pub read : parsed_at k.script span ≡ Ok written
+  pub statement : Statement
+  pub checked : check c written ≡ Ok statement
+  pub stepped : IsStepped statement
+  pub level : run.level ≡ k.level
+  pub visits : List (Item sql)
+  pub going : IsUnderWay c statement run visits
+  pub reads : List (Item sql)
+  pub reading : AreReads reads
+  pub at_three : nat_le 3 run.level ≡ true → reads ≡ visits
+  pub recorded : items ≡ items_of c run.made reads
+  pub has_transaction : is_some k.transaction ≡ true
+
+abbrev pub GoesWith : Catalog → ConnectionState → Option Run → List (Item sql) → Type 0
+GoesWith c k None items = items ≡ []
+GoesWith c k (Some run) items = IsGoing c k run items
+
+-- ---- the whole
+
+-- What stands beside the core's state: a state of the law of isolation; of each connection the entries of its open transaction, the last one first,
+-- and what is recorded of its statement under way; and the committed transactions in their order.
+pub record Ghost : Type 0 where
+  pub state : law.State sql
+  pub entries : ℕ → List RecordedPart
+  pub work : ℕ → List (Item sql)
+  pub history : List Commit
+
+-- with no transaction open there is nothing
+abbrev pub IsIdle : law.Connection sql → List RecordedPart → List (Item sql) → Option OpenTransaction → Type 0
+IsIdle k entries work None = (k ≡ law.idle sql) × (entries ≡ []) × (work ≡ [])
+IsIdle k entries work (Some t) = Unit {0}
+
+pub record Ties (e : CoreState) (g : Ghost) : Type 0 where
+  pub schema : IsCatalog (schema_of e)
+  pub kept : Kept sql g.state
+  pub relates : Relates e g.state
+  pub log : (c : ℕ) → (g.state.conns c).log ≡ g.work c ++ items_in (g.entries c)
+  pub standing : (c : ℕ) → AreStanding (schema_of e) (standing_in (e.connections c).transaction (e.connections c).work) (g.state.conns c).standing
+  pub idle : (c : ℕ) → IsIdle (g.state.conns c) (g.entries c) (g.work c) (e.connections c).transaction
+  pub parts : (c : ℕ) (p : RecordedPart) → Has p (g.entries c) → IsDetermined (schema_of e) p
+  pub serial : Serial 3 e.base g.history e.committed
+  -- until a stop
+  pub works : e.stop ≡ None → (c : ℕ) → GoesWith (schema_of e) (e.connections c) (e.connections c).work (g.work c)
+
+-- such a ghost stands beside the core's state
+pub record IsTied (e : CoreState) : Type 0 where
+  pub ghost : Ghost
+  pub ties : Ties e ghost

@@ -1,0 +1,6 @@
+//! The state of the core is tied to a state of the law of isolation, and so its transactions are serial. Laws, and no code.
+#![tactic(auto)]
+
+mod laws;
+
+pub use laws::{begun_law, tied_laws};
