@@ -1,0 +1,16 @@
+pub mod Acts
+pub mod Alters
+pub mod Changes
+pub mod Columns
+pub mod Creates
+pub mod Deletes
+pub mod Inserts
+pub mod Keys
+pub mod Literals
+pub mod NamesKept
+pub mod ReadableActs
+pub mod Readables
+pub mod Sets
+pub mod Tests
+pub mod Unchanged
+pub mod Updates
