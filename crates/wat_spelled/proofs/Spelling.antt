@@ -1,5 +1,5 @@
 -- What payloads spell they spell in one way.
-use Rattle.std.proofs.Common.{◌≡◌, ◌≢◌, ⊎_elim, ℕ, ◌+◌, ◌<◌, ◌≤◌, ◌^◌, List, [], ◌∷◌, ◌++◌, length, refl, sym, ◌∙◌, ap, subst, arith, append_assoc}
+use Rattle.std.proofs.Common.{◌≡◌, ◌≢◌, ⊎_elim, ℕ, ◌<◌, List, [], ◌∷◌, ◌++◌, length, sym, ◌∙◌, ap, append_assoc}
 use Rattle.std.specs.List.{flat_map, AllByRecursion}
 use Rattle.std.proofs.lemmas.Bool.{cases_eq}
 use Rattle.wat_value.specs.Encoding.{count_bytes}
@@ -11,7 +11,7 @@ use Rattle.wat_log_record.specs.Encoding.{number_bytes, table_bytes, index_bytes
 use Rattle.wat_log_record.proofs.Parts.{Cancels, pair_cancels, items_cancel, tag_same}
 use Rattle.wat_log_record.proofs.Cancelling.{counts, numbers, tables, indexes, changes}
 use Rattle.wat_replay.specs.State.{Lists}
-use Rattle.wat_spelled.specs.Schema.{listing_bytes, catalog_bytes, IsEncodableListing, SpellsSchema}
+use Rattle.wat_spelled.specs.Schema.{listing_bytes, IsEncodableListing, SpellsSchema}
 use Rattle.wat_spelled.specs.Changes.{lists_of, entry_bytes, rollback_bytes, IsEncodableEntry, SpellsLists, TellsLists}
 
 -- ---- schemas
