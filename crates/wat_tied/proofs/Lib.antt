@@ -1,5 +1,6 @@
 pub mod Beginning
 pub mod Begun
+pub mod Quiet
 pub mod Same
 pub mod Serially
 pub mod Stopped

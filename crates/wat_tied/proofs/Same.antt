@@ -1,6 +1,7 @@
 -- The core stays tied where its locks and vacant keys stand in another order.
-use Rattle.std.proofs.Common.{◌≡◌, List, [], ◌∷◌, ◌⊎◌, map, refl, ap, subst, inl, inr, ⊎_elim}
+use Rattle.std.proofs.Common.{List, map, subst, inl, inr, ⊎_elim}
 use Rattle.wat_list.specs.Has.{Has, HasSame}
+use Rattle.wat_list.proofs.Members.{has_map, map_has}
 use Rattle.wat_isolation.specs.Machine as law
 use Rattle.wat_isolation.specs.Sql.{sql}
 use Rattle.wat_isolation.specs.Vacant.{IsVacant}
@@ -8,16 +9,6 @@ use Rattle.wat_locks.specs.declared.held.Held.{Held}
 use Rattle.wat_steps.specs.State.{CoreState, VacantKey}
 use Rattle.wat_steps.specs.Answering.{IsSame}
 use Rattle.wat_tied.specs.Tied.{left_of, Ghost, Ties}
-
-pub map_has : {A B : Type 0} (f : A → B) (x : A) (xs : List A) → Has x xs → Has (f x) (map f xs)
-map_has f x [] h = elim h [ ]
-map_has f x (y ∷ ys) (inl e) = inl (ap f e)
-map_has f x (y ∷ ys) (inr h) = inr (map_has f x ys h)
-
-pub has_map : {A B : Type 0} (f : A → B) (y : B) (xs : List A) → Has y (map f xs) → (x : A) × Has x xs × (f x ≡ y)
-has_map f y [] h = elim h [ ]
-has_map f y (x ∷ xs) (inl e) = (x, inl refl, e)
-has_map f y (x ∷ xs) (inr h) = let r = has_map f y xs h in (r.0, inr r.1, r.2)
 
 pub map_same : {A B : Type 0} (f : A → B) (xs ys : List A) → HasSame xs ys → HasSame (map f xs) (map f ys)
 map_same {A} {B} f xs ys same y = (

@@ -37,3 +37,25 @@ stopped_tied e after c a reason tied stopped step = record {
   ghost = tied.ghost;
   ties = stays e after c a reason (e.connections c).left tied.ghost stopped tied.ties (subst (λ (stop : Option Reason). GoesOrStops c e stop a after) stopped step);
 }
+
+-- ---- the first stop
+
+-- the work of a connection needs nothing any more
+stop_ties : (e : CoreState) (g : Ghost) (reason : Reason) → Ties e g → Ties (record e { stop = Some reason }) g
+stop_ties e g reason ties = record {
+  schema = ties.schema;
+  kept = ties.kept;
+  relates = record { scheme = ties.relates.scheme; now = ties.relates.now; base = ties.relates.base; locks = ties.relates.locks; vacant = ties.relates.vacant };
+  log = ties.log;
+  standing = ties.standing;
+  idle = ties.idle;
+  parts = ties.parts;
+  serial = ties.serial;
+  works = λ going. absurd (no_none reason (Some reason) refl going);
+}
+
+pub stops_tied : (e after : CoreState) (c : ℕ) (a : Progressed) (reason : Reason) → IsTied e → Stays c (record e { stop = Some reason }) reason (e.connections c).left a after → IsTied after
+stops_tied e after c a reason tied step = record {
+  ghost = tied.ghost;
+  ties = stays (record e { stop = Some reason }) after c a reason (e.connections c).left tied.ghost refl (stop_ties e tied.ghost reason tied.ties) step;
+}

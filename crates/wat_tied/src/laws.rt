@@ -1,28 +1,30 @@
-ghost use Rattle.std.specs.Prelude.{◌≡◌, ℕ, ◌∷◌, List, None, Some, Ok};
+ghost use Rattle.std.specs.Prelude.{◌≡◌, ℕ, [], ◌∷◌, List, None, Some, Ok};
 ghost use Rattle.wat_ast.specs.declared.statement.Statement.{Statement};
 ghost use Rattle.wat_parse.specs.declared.script.Span.{Span};
 ghost use Rattle.wat_parse.specs.Parsing.{parsed_at};
 ghost use Rattle.wat_rules.specs.Check.{check};
 ghost use Rattle.wat_scans.specs.Told.{IsStepped};
 ghost use Rattle.wat_schema.specs.Tables.{Tables, IsTables};
+ghost use Rattle.wat_conn.specs.declared.answer.Answer.{Answer};
 ghost use Rattle.wat_conn.specs.declared.answer.Reason.{Reason};
 ghost use Rattle.wat_locks.specs.declared.want.Want.{Want};
 ghost use Rattle.wat_history.specs.Serial.{Follows, Serial};
 ghost use Rattle.wat_steps.specs.State.{CoreState, Progressed, schema_of};
 ghost use Rattle.wat_steps.specs.Fresh.{fresh};
-ghost use Rattle.wat_steps.specs.Answering.{IsSame, opened};
+ghost use Rattle.wat_steps.specs.Answering.{IsSame, answered, opened};
 ghost use Rattle.wat_steps.specs.Asking.{asking};
 ghost use Rattle.wat_steps.specs.Statements.{begun};
-ghost use Rattle.wat_steps.specs.Step.{IsStep};
+ghost use Rattle.wat_steps.specs.Step.{IsStep, Stays};
 ghost use Rattle.wat_tied.specs.Tied.{IsTied, parts_in};
 
 /// Where the core is tied to the law of isolation, its committed transactions are serial, and each open one follows on
 /// them. It is tied at the beginning. A step that waits
-/// leaves it tied, and so does every step after a stop.
+/// leaves it tied, and so do the first step that stops and every step after a stop.
 pub fn tied_laws()
     ensures serial { (e : CoreState) (tied : IsTied e) → Serial 3 e.base tied.ghost.history e.committed }
     ensures open_ones { (e : CoreState) (tied : IsTied e) (c : ℕ) → (after : Tables) × Follows 3 e.committed (parts_in (tied.ghost.entries c)) after }
     ensures begins { (base : Tables) (scripts : List (List ℕ)) → IsTables base → IsTied (fresh base scripts) }
+    ensures stops { (e after : CoreState) (c : ℕ) (a : Progressed) (reason : Reason) → IsTied e → Stays c (record e { stop = Some reason }) reason (e.connections c).left a after → IsTied after }
     ensures stopped { (e after : CoreState) (c : ℕ) (a : Progressed) (reason : Reason) → IsTied e → e.stop ≡ Some reason → IsStep e c a after → IsTied after }
     ensures waits { (e after : CoreState) (c : ℕ) (wants : List Want) → IsTied e → IsSame (asking c wants e) after → IsTied after }
 {}
@@ -32,4 +34,9 @@ pub fn begun_law()
     ensures { (e after : CoreState) (c : ℕ) → IsTied e → (e.connections c).work ≡ None
         → (span : Span) (more : List Span) → (e.connections c).left ≡ span ∷ more → (written : Statement) → parsed_at (e.connections c).script span ≡ Ok written
         → (x : Statement) → check (schema_of e) written ≡ Ok x → IsStepped x → IsSame (begun c (opened c e) (Ok x)).1 after → IsTied after }
+{}
+
+/// A statement that is answered at once, without acts, while its connection has no transaction open leaves the core tied.
+pub fn quiet_law()
+    ensures { (e after : CoreState) (c : ℕ) (answer : Answer) → IsTied e → (e.connections c).work ≡ None → (e.connections c).transaction ≡ None → IsSame (answered c e answer []) after → IsTied after }
 {}

@@ -1,6 +1,6 @@
 use Rattle.wat_tied.proofs.Beginning.{begins}
 use Rattle.wat_tied.proofs.Serially.{open_serial}
-use Rattle.wat_tied.proofs.Stopped.{stopped_tied}
+use Rattle.wat_tied.proofs.Stopped.{stopped_tied, stops_tied}
 use Rattle.wat_tied.proofs.Updated.{waiting_tied}
 use Rattle.wat_tied.proofs.laws.tied_laws.Goals as goal
 
@@ -12,6 +12,9 @@ returns-clause-open_ones x e tied c = open_serial e tied c
 
 pub returns-clause-begins : goal.returns-clause-begins
 returns-clause-begins x base scripts tables = begins base scripts tables
+
+pub returns-clause-stops : goal.returns-clause-stops
+returns-clause-stops x e after c a reason tied step = stops_tied e after c a reason tied step
 
 pub returns-clause-stopped : goal.returns-clause-stopped
 returns-clause-stopped x e after c a reason tied stopped step = stopped_tied e after c a reason tied stopped step
