@@ -15,11 +15,14 @@ use std::marker::Model;
 use wat_disk::Disk;
 use wat_gate::{Frame, GateLog};
 use wat_list::{Copied, Items, NoMemory, Reserved};
-use wat_record::{LogRecord, write_record};
+use wat_record::{LogRecord, push_changed};
 use wat_value::{Act, Change};
 
 /// The records of the changes take at most so many bytes, so that a frame takes the Commit too.
 const MOST_BYTES: usize = 1999997;
+
+/// Room for the record of a short row.
+const ROW_BYTES: usize = 64;
 
 /// The number of the connection, which is the only one.
 pub(crate) const CONNECTION: u16 = 1;
@@ -55,11 +58,7 @@ fn note(
     ensures bytes { OnOk result (bytes.new.items ≡ bytes.old.items ++ record_bytes (changed change.now)) }
     ensures encodable { OnOk result (IsEncodableRecord (changed change.now)) }
 {
-    let record = LogRecord::Changed {
-        conn: CONNECTION,
-        change: change.copy(alloc)?,
-    };
-    write_record(&record, bytes)?;
+    push_changed(CONNECTION, change, bytes)?;
     changes.push(change.copy(alloc)?)?;
     Ok(())
 }
@@ -72,7 +71,7 @@ fn note_all(alloc: Global, acts: &[Act], bytes: &mut Vec<u8>) -> Result<Vec<Chan
     ensures bytes { OnOk result (bytes.new.items ≡ changes_bytes (changes_in acts.now)) }
     ensures encodable { OnOk result (AllByRecursion IsEncodableRecord (map changed (changes_in acts.now))) }
 {
-    let mut changes = Vec::new(alloc);
+    let mut changes = Vec::with_capacity(alloc, acts.len())?;
     for act in acts {
         match act {
             Act::OnRow(change) => note(alloc, change, &mut changes, bytes)?,
@@ -132,7 +131,7 @@ impl Pending {
         ensures added { IfOk result (λ added. self.new ≡ (if added then self.old ++ changes_in acts.now else self.old)) }
         ensures err { OnErr result (self.new ≡ self.old) }
     {
-        let mut bytes = Vec::new(alloc);
+        let mut bytes = Vec::with_capacity(alloc, ROW_BYTES)?;
         let more = note_all(alloc, acts, &mut bytes)?;
         if bytes.len() > MOST_BYTES - self.frame.len() {
             return Ok(false);

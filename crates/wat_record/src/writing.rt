@@ -3,6 +3,7 @@ ghost use Rattle.wat_value.specs.Encoding.{count_bytes, row_bytes, IsEncodable, 
 ghost use Rattle.wat_log_record.specs.Encoding.{number_bytes, counted_bytes, kind_bytes, column_bytes, columns_bytes, table_bytes, index_bytes, change_bytes, schema_bytes, record_bytes};
 ghost use Rattle.wat_log_record.specs.Encoding.{IsName, IsEncodableKind, IsEncodableColumn, AreEncodableColumns, IsEncodableTable, IsEncodableIndex, IsEncodableChange, IsEncodableSchema, IsEncodableRecord};
 ghost use Rattle.wat_log_record.specs.Encoding.{IsWritableTable, IsWritableIndex, IsWritableChange, IsWritableSchema, IsWritable};
+ghost use Rattle.wat_log_record.specs.declared.log_record.LogRecord.TheVariants as entries;
 
 use byteorder::{BigEndian, ByteOrder};
 use wat_list::NoMemory;
@@ -206,6 +207,19 @@ fn push_schema_change(change: &SchemaChange, out: &mut Vec<u8>) -> Result<(), No
     }
 }
 
+/// Adds the bytes of the record that a connection made this change. Each row of the change has fewer than 65,536 values, and each of its
+/// texts fewer than 65,536 bytes.
+pub fn push_changed(conn: u16, change: &Change, out: &mut Vec<u8>) -> Result<(), NoMemory>
+    requires { IsWritableChange change.now }
+    ensures ok { OnOk result (out.new.items ≡ out.old.items ++ record_bytes (entries.Changed conn change.now)) }
+    ensures encodable { OnOk result (IsEncodableRecord (entries.Changed conn change.now)) }
+    ensures err { OnErr result (take (vec_len out.old) out.new.items ≡ out.old.items) }
+{
+    out.push(CHANGED)?;
+    push_count(conn, out)?;
+    push_change(change, out)
+}
+
 fn push_record(entry: &LogRecord, out: &mut Vec<u8>) -> Result<(), NoMemory>
     requires { IsWritable entry.now }
     ensures ok { OnOk result (out.new.items ≡ out.old.items ++ record_bytes entry.now) }
@@ -213,11 +227,7 @@ fn push_record(entry: &LogRecord, out: &mut Vec<u8>) -> Result<(), NoMemory>
     ensures err { OnErr result (take (vec_len out.old) out.new.items ≡ out.old.items) }
 {
     match entry {
-        LogRecord::Changed { conn, change } => {
-            out.push(CHANGED)?;
-            push_count(*conn, out)?;
-            push_change(change, out)
-        }
+        LogRecord::Changed { conn, change } => push_changed(*conn, change, out),
         LogRecord::UndoTo { conn, count } => {
             out.push(UNDO_TO)?;
             push_count(*conn, out)?;
