@@ -1,8 +1,10 @@
 //! What a database has over its pages: the rows, the schema, and the changes that can be rolled back.
 #![tactic(auto)]
 
+mod chains;
 mod lists;
 mod objects;
 mod rows;
 
+pub use chains::Roots;
 pub use objects::Objects;
