@@ -5,7 +5,7 @@ use Rattle.wat_ast.specs.declared.statement.Statement.{Statement}
 use Rattle.wat_parse.specs.declared.script.Span.{Span}
 use Rattle.wat_parse.specs.Parsing.{parsed_at}
 use Rattle.wat_rules.specs.Check.{check}
-use Rattle.wat_scans.specs.Running.{Run, begin}
+use Rattle.wat_scans.specs.Running.{Run, begin, task_of}
 use Rattle.wat_scans.specs.Told.{IsStepped}
 use Rattle.wat_scans.proofs.Going.{begin_goes}
 use Rattle.wat_scans.proofs.Planned.{task_planned}
@@ -13,6 +13,7 @@ use Rattle.wat_steps.specs.State.{OpenTransaction, ConnectionState, CoreState, s
 use Rattle.wat_steps.specs.Answering.{IsSame, no_changes, opened, transaction_of}
 use Rattle.wat_steps.specs.Statements.{begun}
 use Rattle.wat_tied.specs.Tied.{AreStanding, standing_in, GoesWith, Ghost, Ties, IsTied}
+use Rattle.wat_tied.proofs.Placed.{begun_placed}
 use Rattle.wat_tied.proofs.Same.{same_ties}
 use Rattle.wat_tied.proofs.Updated.{with_tied}
 
@@ -46,6 +47,7 @@ goes_open e k t (Some run) g c h = record {
   level = h.level;
   visits = h.visits;
   going = h.going;
+  placed = h.placed;
   reads = h.reads;
   reading = h.reading;
   at_three = h.at_three;
@@ -87,6 +89,7 @@ begun_here e g c ties free open_one span more first written read x checked stepp
         level = refl;
         visits = [];
         going = begin_goes (schema_of e) k.level x (task_planned (schema_of e) x ties.schema);
+        placed = begun_placed (task_of (schema_of e) x).plan;
         reads = [];
         reading = tt;
         at_three = λ at. refl;

@@ -1,7 +1,14 @@
 pub mod Beginning
 pub mod Begun
+pub mod Granted
+pub mod Next
+pub mod Placed
+pub mod Places
 pub mod Quiet
+pub mod Reading
+pub mod Renewed
 pub mod Same
 pub mod Serially
 pub mod Stopped
 pub mod Updated
+pub mod Visiting

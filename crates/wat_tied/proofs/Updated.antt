@@ -51,6 +51,7 @@ goes_asking e k wants (Some run) g c h = record {
   level = h.level;
   visits = h.visits;
   going = h.going;
+  placed = h.placed;
   reads = h.reads;
   reading = h.reading;
   at_three = h.at_three;

@@ -1,5 +1,5 @@
 -- How the state of the core is tied to a state of the law of isolation.
-use Rattle.std.specs.Prelude.{◌≡◌, ℕ, nat_le, true, is_some, List, [], ◌∷◌, ◌++◌, map, reverse, Option, Some, None, Ok}
+use Rattle.std.specs.Prelude.{◌≡◌, ℕ, nat_le, true, is_some, slice_get, List, [], ◌∷◌, ◌++◌, map, reverse, Option, Some, None, Ok}
 use Rattle.wat_list.specs.Has.{Has}
 use Rattle.wat_value.specs.declared.change.Change.{Change}
 use Rattle.wat_value.specs.Changes.{RowName, row_before, row_after}
@@ -18,8 +18,12 @@ use Rattle.wat_isolation.specs.Naming.{scheme_of}
 use Rattle.wat_isolation.specs.Sql.{sql}
 use Rattle.wat_isolation.specs.Vacant as vacancy
 use Rattle.wat_protocol.specs.Locked.{AreHeld}
+use Rattle.wat_plan.specs.Plans.{ScanPlan}
+use Rattle.wat_scans.specs.declared.scan.Scan.{Scan}
+use Rattle.wat_scans.specs.declared.scan.Taken.{Taken}
 use Rattle.wat_scans.specs.Look.{IsOf}
 use Rattle.wat_scans.specs.Running.{Run, items_of, row_changed}
+use Rattle.wat_scans.specs.Scans.{Progress}
 use Rattle.wat_scans.specs.Told.{IsStepped, IsUnderWay}
 use Rattle.wat_history.specs.Connection.{Part}
 use Rattle.wat_history.specs.History.{Commit}
@@ -99,6 +103,19 @@ AreReads (Peeked r found ∷ items) = AreReads items
 AreReads (Did r before after ∷ items) = ⊥
 AreReads (Looked r found ∷ items) = ⊥
 
+-- the scan is one of a step of the plan
+abbrev pub IsOfStep : ScanPlan → Scan → Type 0
+IsOfStep p scan = (depth : ℕ) × (slice_get p.steps depth ≡ Some scan.step)
+
+-- each scan under way is
+pub record AreOfSteps (p : ScanPlan) (w : Progress) : Type 0 where
+  pub scan : (s : Scan) → w.scan ≡ Some s → IsOfStep p s
+  pub taken : (t : Taken) → Has t w.taken → IsOfStep p t.scan
+
+abbrev pub ArePlaced : ScanPlan → Option Progress → Type 0
+ArePlaced p None = Unit {0}
+ArePlaced p (Some w) = AreOfSteps p w
+
 -- The statement under way is the first that is left, as its text was read and checked. Recorded of it is what it read, at level 3 its visits, and
 -- then its changes.
 pub record IsGoing (c : Catalog) (k : ConnectionState) (run : Run) (items : List (Item sql)) : Type 0 where
@@ -113,6 +130,7 @@ pub record IsGoing (c : Catalog) (k : ConnectionState) (run : Run) (items : List
   pub level : run.level ≡ k.level
   pub visits : List (Item sql)
   pub going : IsUnderWay c statement run visits
+  pub placed : ArePlaced run.task.plan run.progress
   pub reads : List (Item sql)
   pub reading : AreReads reads
   pub at_three : nat_le 3 run.level ≡ true → reads ≡ visits

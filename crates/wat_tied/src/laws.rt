@@ -8,12 +8,21 @@ ghost use Rattle.wat_schema.specs.Tables.{Tables, IsTables};
 ghost use Rattle.wat_conn.specs.declared.answer.Answer.{Answer};
 ghost use Rattle.wat_conn.specs.declared.answer.Reason.{Reason};
 ghost use Rattle.wat_locks.specs.declared.want.Want.{Want};
+ghost use Rattle.wat_locks.specs.Held.{AreFree};
+ghost use Rattle.wat_expr.specs.Evaluation.{Combination};
+ghost use Rattle.wat_scans.specs.declared.scan.Scan.{Scan};
+ghost use Rattle.wat_scans.specs.declared.scan.Seen.{Seen};
+ghost use Rattle.wat_scans.specs.declared.scan.Taken.{Taken};
+ghost use Rattle.wat_scans.specs.Recorded.{index_of_step};
+ghost use Rattle.wat_scans.specs.Running.{Run, Next.ToVisit, next, after_visit};
+ghost use Rattle.wat_scans.specs.Scans.{Progress};
 ghost use Rattle.wat_history.specs.Serial.{Follows, Serial};
 ghost use Rattle.wat_steps.specs.State.{CoreState, Progressed, schema_of};
 ghost use Rattle.wat_steps.specs.Fresh.{fresh};
 ghost use Rattle.wat_steps.specs.Answering.{IsSame, answered, opened};
 ghost use Rattle.wat_steps.specs.Asking.{asking};
 ghost use Rattle.wat_steps.specs.Statements.{begun};
+ghost use Rattle.wat_steps.specs.Visiting.{IsSeen, wants_of, visited};
 ghost use Rattle.wat_steps.specs.Step.{IsStep, Stays};
 ghost use Rattle.wat_tied.specs.Tied.{IsTied, parts_in};
 
@@ -39,4 +48,13 @@ pub fn begun_law()
 /// A statement that is answered at once, without acts, while its connection has no transaction open leaves the core tied.
 pub fn quiet_law()
     ensures { (e after : CoreState) (c : ℕ) (answer : Answer) → IsTied e → (e.connections c).work ≡ None → (e.connections c).transaction ≡ None → IsSame (answered c e answer []) after → IsTied after }
+{}
+
+/// A visit that is granted, after which the statement goes on, leaves the core tied: at level 3 and at the lower ones, at a position
+/// of the interval and past it.
+pub fn visit_law()
+    ensures { (e after : CoreState) (c : ℕ) (run : Run) → IsTied e → e.stop ≡ None → (e.connections c).work ≡ Some run
+        → (scan : Scan) (taken : List Taken) (met : List Combination) → next run ≡ ToVisit scan taken met
+        → (seen : Seen) → IsSeen e (index_of_step run.task.plan scan.step) scan seen → AreFree e.held c (wants_of run scan taken seen)
+        → (progress : Progress) → (after_visit run scan taken met seen).progress ≡ Some progress → IsSame (visited c e run scan taken met seen).1 after → IsTied after }
 {}

@@ -3,4 +3,4 @@
 
 mod laws;
 
-pub use laws::{begun_law, quiet_law, tied_laws};
+pub use laws::{begun_law, quiet_law, tied_laws, visit_law};
