@@ -1,6 +1,9 @@
 pub mod Beginning
 pub mod Begun
+pub mod Changed
 pub mod Granted
+pub mod Keys
+pub mod Moved
 pub mod Next
 pub mod Placed
 pub mod Places
@@ -9,6 +12,7 @@ pub mod Reading
 pub mod Renewed
 pub mod Same
 pub mod Serially
+pub mod Spots
 pub mod Stopped
 pub mod Updated
 pub mod Visiting

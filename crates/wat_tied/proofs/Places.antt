@@ -66,7 +66,7 @@ is_cut_within scan x y l h = ⊎_elim
 
 -- ---- widths
 
-values_long : (row : List Value) (columns : List ℕ) → length (values_in row columns) ≡ length columns
+pub values_long : (row : List Value) (columns : List ℕ) → length (values_in row columns) ≡ length columns
 values_long row [] = refl
 values_long row (n ∷ columns) = ap (λ z. suc z) (values_long row columns)
 

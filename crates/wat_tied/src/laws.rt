@@ -1,4 +1,12 @@
 ghost use Rattle.std.specs.Prelude.{◌≡◌, ℕ, [], ◌∷◌, List, None, Some, Ok};
+ghost use Rattle.wat_value.specs.declared.change.Change.{Change};
+ghost use Rattle.wat_value.specs.Changes.{changed_table, row_before};
+ghost use Rattle.wat_value.specs.Indexes.{index_numbers};
+ghost use Rattle.wat_schema.specs.Catalog.{Listing, listing_at};
+ghost use Rattle.wat_level.specs.declared.change.Spot.{Spot};
+ghost use Rattle.wat_level.specs.Change.{change_wants};
+ghost use Rattle.wat_scans.specs.Look.{look};
+ghost use Rattle.wat_steps.specs.Making.{AreSpots, changed};
 ghost use Rattle.wat_ast.specs.declared.statement.Statement.{Statement};
 ghost use Rattle.wat_parse.specs.declared.script.Span.{Span};
 ghost use Rattle.wat_parse.specs.Parsing.{parsed_at};
@@ -14,7 +22,7 @@ ghost use Rattle.wat_scans.specs.declared.scan.Scan.{Scan};
 ghost use Rattle.wat_scans.specs.declared.scan.Seen.{Seen};
 ghost use Rattle.wat_scans.specs.declared.scan.Taken.{Taken};
 ghost use Rattle.wat_scans.specs.Recorded.{index_of_step};
-ghost use Rattle.wat_scans.specs.Running.{Run, Next.ToVisit, next, after_visit};
+ghost use Rattle.wat_scans.specs.Running.{Run, Next.ToVisit, Next.ToChange, next, after_visit, row_changed};
 ghost use Rattle.wat_scans.specs.Scans.{Progress};
 ghost use Rattle.wat_history.specs.Serial.{Follows, Serial};
 ghost use Rattle.wat_steps.specs.State.{CoreState, Progressed, schema_of};
@@ -24,7 +32,7 @@ ghost use Rattle.wat_steps.specs.Asking.{asking};
 ghost use Rattle.wat_steps.specs.Statements.{begun};
 ghost use Rattle.wat_steps.specs.Visiting.{IsSeen, wants_of, visited};
 ghost use Rattle.wat_steps.specs.Step.{IsStep, Stays};
-ghost use Rattle.wat_tied.specs.Tied.{IsTied, parts_in};
+ghost use Rattle.wat_tied.specs.Tied.{IsFormed, IsTied, parts_in};
 
 /// Where the core is tied to the law of isolation, its committed transactions are serial, and each open one follows on
 /// them. It is tied at the beginning. A step that waits
@@ -57,4 +65,13 @@ pub fn visit_law()
         → (scan : Scan) (taken : List Taken) (met : List Combination) → next run ≡ ToVisit scan taken met
         → (seen : Seen) → IsSeen e (index_of_step run.task.plan scan.step) scan seen → AreFree e.held c (wants_of run scan taken seen)
         → (progress : Progress) → (after_visit run scan taken met seen).progress ≡ Some progress → IsSame (visited c e run scan taken met seen).1 after → IsTied after }
+{}
+
+/// A change that is granted leaves the core tied: with its locks, the keys that it leaves noted as vacant, at every level. It is formed,
+/// and its row is now as it found it.
+pub fn change_law()
+    ensures { (e after : CoreState) (c : ℕ) (run : Run) → IsTied e → e.stop ≡ None → (e.connections c).work ≡ Some run
+        → (change : Change) → next run ≡ ToChange change → IsFormed (schema_of e) change → look e.now (row_changed (schema_of e) change) ≡ row_before change
+        → (l : Listing) → listing_at (schema_of e) (changed_table change) ≡ Some l → (spots : List Spot) → AreSpots e c l change (index_numbers l.indexes) spots → AreFree e.held c (change_wants l.def change spots)
+        → IsSame (changed c e run l change spots) after → IsTied after }
 {}
