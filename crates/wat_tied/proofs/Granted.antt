@@ -23,6 +23,7 @@ use Rattle.wat_scans.specs.declared.scan.Taken.{Taken}
 use Rattle.wat_scans.specs.Recorded.{index_of_step, HasWidth}
 use Rattle.wat_scans.specs.Running.{Run, Task, task_of, Next.ToVisit, next, after_visit, visit_item, items_of}
 use Rattle.wat_scans.specs.Scans.{Progress}
+use Rattle.wat_scans.specs.Told.{IsUnderWay}
 use Rattle.wat_scans.proofs.Going.{none_before_visit, visit_goes}
 use Rattle.wat_scans.proofs.Planned.{task_planned}
 use Rattle.wat_scans.proofs.Rows.{step_listing}
@@ -94,8 +95,11 @@ module _ (e : CoreState) (g : Ghost) (ties : Ties e g) (c : ℕ) (run : Run) (un
   long End first = tt
   long (At key) first = places.position_long e g.state ties.relates i key (listing_of_step run.task.plan scan.step) listing (places.position_from e g.state ties.relates i key first.1)
 
-  none : run.made ≡ []
+  pub none : run.made ≡ []
   none = none_before_visit (schema_of e) was.statement run was.visits was.going scan ts met progress
+
+  pub goes_later : IsUnderWay (schema_of e) was.statement later (visit_item run scan seen ∷ was.visits)
+  goes_later = visit_goes (schema_of e) was.statement run was.visits plan was.going scan ts met seen progress (long seen.place sees.first)
 
   module _ (item : Item sql) (reads : AreReads was.reads → AreReads (item ∷ was.reads)) (three : nat_le 3 run.level ≡ true → item ≡ visit_item run scan seen) where
     pub goes_on : IsGoing (schema_of e) k later (item ∷ g.work c)
@@ -110,7 +114,7 @@ module _ (e : CoreState) (g : Ghost) (ties : Ties e g) (c : ℕ) (run : Run) (un
       stepped = was.stepped;
       level = was.level;
       visits = visit_item run scan seen ∷ was.visits;
-      going = visit_goes (schema_of e) was.statement run was.visits plan was.going scan ts met seen progress (long seen.place sees.first);
+      going = goes_later;
       placed = visited_placed run.task.plan scan ts met seen placed;
       reads = item ∷ was.reads;
       reading = reads was.reading;

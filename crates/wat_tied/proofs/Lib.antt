@@ -1,3 +1,4 @@
+pub mod Answered
 pub mod Beginning
 pub mod Begun
 pub mod Changed
@@ -9,10 +10,15 @@ pub mod Placed
 pub mod Places
 pub mod Quiet
 pub mod Reading
+pub mod Recorded
+pub mod Refused
+pub mod Refusing
 pub mod Renewed
+pub mod Replying
 pub mod Same
 pub mod Serially
 pub mod Spots
 pub mod Stopped
+pub mod Undone
 pub mod Updated
 pub mod Visiting

@@ -21,7 +21,7 @@ neither true = refl
 neither false = refl
 
 -- the long locks stay where short ones go
-long_held : (s : law.State sql) (c : ℕ) (held : List Held) → AreHeld s held → AreHeld s (without_short c held)
+pub long_held : (s : law.State sql) (c : ℕ) (held : List Held) → AreHeld s held → AreHeld s (without_short c held)
 long_held s c held are d lock has = filter_has (λ (h : Held). not ((h.conn == c) && is_some h.short)) (entry d (long_want (lock_of lock))) held (are d lock has) (neither (d == c))
 
 with_fewer : (e : CoreState) (c : ℕ) (g : Ghost) → Ties e g → Ties (record e { held = without_short c e.held }) g

@@ -1,5 +1,5 @@
 -- What a step that reads makes of the state of the law of isolation.
-use Rattle.std.proofs.Common.{◌≡◌, ℕ, ◌==◌, Bool, true, false, not, ◌&&◌, List, [], ◌∷◌, ◌++◌, map, nat_eq, Option, refl, sym, ap, subst, inr, ⊎_elim}
+use Rattle.std.proofs.Common.{◌≡◌, ℕ, ◌==◌, Bool, true, false, not, ◌&&◌, List, [], ◌∷◌, ◌++◌, map, nat_eq, Option, refl, sym, ap, subst, ⊎_elim}
 use Rattle.std.specs.List.{filter}
 use Rattle.wat_list.specs.Has.{Has}
 use Rattle.wat_list.proofs.Members.{filter_has, has_cases, has_left, has_right}
@@ -121,9 +121,9 @@ module _ (e : CoreState) (s : law.State sql) (relates : Relates e s) (kept : Kep
         here : put nat_eq s.conns c new c ≡ new
         here = put-same nat_eq nat_same s.conns c new
 
-    pub looked : Has (law.Lock.Write r) (long_locks wants) → IsReadIn e s (law.happens sql s (law.Event.Look c r (long_locks wants))) c (Looked r (s.now r)) (held ++ map (entry c) wants)
-    looked write = record {
-      kept = event_keeps sql s (law.Event.Look c r (long_locks wants)) kept (inr write, all_free s e.held c wants relates.locks free);
+    pub looked : law.May sql s (law.Event.Look c r (long_locks wants)) → IsReadIn e s (law.happens sql s (law.Event.Look c r (long_locks wants))) c (Looked r (s.now r)) (held ++ map (entry c) wants)
+    looked may = record {
+      kept = event_keeps sql s (law.Event.Look c r (long_locks wants)) kept may;
       relates = record {
         scheme = relates.scheme;
         now = relates.now;

@@ -6,15 +6,19 @@ ghost use Rattle.wat_schema.specs.Catalog.{Listing, listing_at};
 ghost use Rattle.wat_level.specs.declared.change.Spot.{Spot};
 ghost use Rattle.wat_level.specs.Change.{change_wants};
 ghost use Rattle.wat_scans.specs.Look.{look};
-ghost use Rattle.wat_steps.specs.Making.{AreSpots, changed};
+ghost use Rattle.wat_steps.specs.Making.{AreSpots, changed, standing_row, duplicate};
 ghost use Rattle.wat_ast.specs.declared.statement.Statement.{Statement};
 ghost use Rattle.wat_parse.specs.declared.script.Span.{Span};
 ghost use Rattle.wat_parse.specs.Parsing.{parsed_at};
 ghost use Rattle.wat_rules.specs.Check.{check};
 ghost use Rattle.wat_scans.specs.Told.{IsStepped};
-ghost use Rattle.wat_schema.specs.Tables.{Tables, IsTables};
+ghost use Rattle.wat_schema.specs.Tables.{Row, Tables, IsTables};
 ghost use Rattle.wat_conn.specs.declared.answer.Answer.{Answer};
 ghost use Rattle.wat_conn.specs.declared.answer.Reason.{Reason};
+ghost use Rattle.wat_conn.specs.declared.answer.Answer.TheVariants.{Refused, Locked};
+ghost use Rattle.wat_schema.specs.declared.refusal.Refusal.{Refusal};
+ghost use Rattle.wat_meaning.specs.declared.reply.Reply.{Reply as Meant};
+ghost use Rattle.wat_locks.specs.declared.held.Against.{Against};
 ghost use Rattle.wat_locks.specs.declared.want.Want.{Want};
 ghost use Rattle.wat_locks.specs.Held.{AreFree};
 ghost use Rattle.wat_expr.specs.Evaluation.{Combination};
@@ -22,16 +26,16 @@ ghost use Rattle.wat_scans.specs.declared.scan.Scan.{Scan};
 ghost use Rattle.wat_scans.specs.declared.scan.Seen.{Seen};
 ghost use Rattle.wat_scans.specs.declared.scan.Taken.{Taken};
 ghost use Rattle.wat_scans.specs.Recorded.{index_of_step};
-ghost use Rattle.wat_scans.specs.Running.{Run, Next.ToVisit, Next.ToChange, next, after_visit, row_changed};
+ghost use Rattle.wat_scans.specs.Running.{Run, Next.ToVisit, Next.ToChange, Next.ToReply, Next.ToRefuse, next, after_visit, row_changed};
 ghost use Rattle.wat_scans.specs.Scans.{Progress};
 ghost use Rattle.wat_history.specs.Serial.{Follows, Serial};
 ghost use Rattle.wat_steps.specs.State.{CoreState, Progressed, schema_of};
 ghost use Rattle.wat_steps.specs.Fresh.{fresh};
 ghost use Rattle.wat_steps.specs.Answering.{IsSame, answered, opened};
-ghost use Rattle.wat_steps.specs.Asking.{asking};
+ghost use Rattle.wat_steps.specs.Asking.{asking, refused};
 ghost use Rattle.wat_steps.specs.Statements.{begun};
 ghost use Rattle.wat_steps.specs.Visiting.{IsSeen, wants_of, visited};
-ghost use Rattle.wat_steps.specs.Step.{IsStep, Stays};
+ghost use Rattle.wat_steps.specs.Step.{IsStep, Stays, replied};
 ghost use Rattle.wat_tied.specs.Tied.{IsFormed, IsTied, parts_in};
 
 /// Where the core is tied to the law of isolation, its committed transactions are serial, and each open one follows on
@@ -74,4 +78,20 @@ pub fn change_law()
         → (change : Change) → next run ≡ ToChange change → IsFormed (schema_of e) change → look e.now (row_changed (schema_of e) change) ≡ row_before change
         → (l : Listing) → listing_at (schema_of e) (changed_table change) ≡ Some l → (spots : List Spot) → AreSpots e c l change (index_numbers l.indexes) spots → AreFree e.held c (change_wants l.def change spots)
         → IsSame (changed c e run l change spots) after → IsTied after }
+{}
+
+/// An answer to a statement under way leaves the core tied: its reply, after which its changes stand; what it is refused for, a WHERE that
+/// has an error over what a visit sees, a row that stands already, and a lock that another connection holds, after which its changes are
+/// undone.
+pub fn answer_law()
+    ensures replies { (e after : CoreState) (c : ℕ) (run : Run) → IsTied e → e.stop ≡ None → (e.connections c).work ≡ Some run → (reply : Meant) → next run ≡ ToReply reply → IsSame (replied c e run reply) after → IsTied after }
+    ensures refuses { (e after : CoreState) (c : ℕ) (run : Run) → IsTied e → e.stop ≡ None → (e.connections c).work ≡ Some run → (refusal : Refusal) → next run ≡ ToRefuse refusal → IsSame (refused c e run (Refused refusal)) after → IsTied after }
+    ensures fails { (e after : CoreState) (c : ℕ) (run : Run) → IsTied e → e.stop ≡ None → (e.connections c).work ≡ Some run
+        → (scan : Scan) (taken : List Taken) (met : List Combination) → next run ≡ ToVisit scan taken met
+        → (seen : Seen) → IsSeen e (index_of_step run.task.plan scan.step) scan seen → AreFree e.held c (wants_of run scan taken seen)
+        → (after_visit run scan taken met seen).progress ≡ None → IsSame (visited c e run scan taken met seen).1 after → IsTied after }
+    ensures duplicates { (e after : CoreState) (c : ℕ) (run : Run) → IsTied e → e.stop ≡ None → (e.connections c).work ≡ Some run
+        → (change : Change) → next run ≡ ToChange change → (l : Listing) → listing_at (schema_of e) (changed_table change) ≡ Some l
+        → (other : Row) → standing_row e l change ≡ Some other → AreFree e.held c (change_wants l.def change []) → IsSame (duplicate c e run l change) after → IsTied after }
+    ensures locked { (e after : CoreState) (c : ℕ) (run : Run) → IsTied e → e.stop ≡ None → (e.connections c).work ≡ Some run → (against : Against) → IsSame (refused c e run (Locked against)) after → IsTied after }
 {}
