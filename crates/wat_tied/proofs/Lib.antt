@@ -1,7 +1,14 @@
+pub mod Alike
+pub mod Altered
 pub mod Answered
+pub mod Backs
 pub mod Beginning
 pub mod Begun
 pub mod Changed
+pub mod Committing
+pub mod Ended
+pub mod Ending
+pub mod Entered
 pub mod Granted
 pub mod Keys
 pub mod Moved

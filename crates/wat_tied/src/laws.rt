@@ -2,7 +2,7 @@ ghost use Rattle.std.specs.Prelude.{◌≡◌, ℕ, [], ◌∷◌, List, None, S
 ghost use Rattle.wat_value.specs.declared.change.Change.{Change};
 ghost use Rattle.wat_value.specs.Changes.{changed_table, row_before};
 ghost use Rattle.wat_value.specs.Indexes.{index_numbers};
-ghost use Rattle.wat_schema.specs.Catalog.{Listing, listing_at};
+ghost use Rattle.wat_schema.specs.Catalog.{Listing, Name, listing_at};
 ghost use Rattle.wat_level.specs.declared.change.Spot.{Spot};
 ghost use Rattle.wat_level.specs.Change.{change_wants};
 ghost use Rattle.wat_scans.specs.Look.{look};
@@ -12,13 +12,15 @@ ghost use Rattle.wat_parse.specs.declared.script.Span.{Span};
 ghost use Rattle.wat_parse.specs.Parsing.{parsed_at};
 ghost use Rattle.wat_rules.specs.Check.{check};
 ghost use Rattle.wat_scans.specs.Told.{IsStepped};
-ghost use Rattle.wat_schema.specs.Tables.{Row, Tables, IsTables};
+ghost use Rattle.wat_schema.specs.Tables.{Row, Tables, IsTables, apply_all};
 ghost use Rattle.wat_conn.specs.declared.answer.Answer.{Answer};
 ghost use Rattle.wat_conn.specs.declared.answer.Reason.{Reason};
 ghost use Rattle.wat_conn.specs.declared.answer.Answer.TheVariants.{Refused, Locked};
 ghost use Rattle.wat_schema.specs.declared.refusal.Refusal.{Refusal};
 ghost use Rattle.wat_meaning.specs.declared.reply.Reply.{Reply as Meant};
 ghost use Rattle.wat_locks.specs.declared.held.Against.{Against};
+ghost use Rattle.wat_cycle.specs.declared.request.Edge.{Edge};
+ghost use Rattle.wat_meaning.specs.Meaning.{meaning};
 ghost use Rattle.wat_locks.specs.declared.want.Want.{Want};
 ghost use Rattle.wat_locks.specs.Held.{AreFree};
 ghost use Rattle.wat_expr.specs.Evaluation.{Combination};
@@ -29,13 +31,13 @@ ghost use Rattle.wat_scans.specs.Recorded.{index_of_step};
 ghost use Rattle.wat_scans.specs.Running.{Run, Next.ToVisit, Next.ToChange, Next.ToReply, Next.ToRefuse, next, after_visit, row_changed};
 ghost use Rattle.wat_scans.specs.Scans.{Progress};
 ghost use Rattle.wat_history.specs.Serial.{Follows, Serial};
-ghost use Rattle.wat_steps.specs.State.{CoreState, Progressed, schema_of};
+ghost use Rattle.wat_steps.specs.State.{OpenTransaction, CoreState, Progressed, schema_of};
 ghost use Rattle.wat_steps.specs.Fresh.{fresh};
-ghost use Rattle.wat_steps.specs.Answering.{IsSame, answered, opened};
-ghost use Rattle.wat_steps.specs.Asking.{asking, refused};
-ghost use Rattle.wat_steps.specs.Statements.{begun};
+ghost use Rattle.wat_steps.specs.Answering.{IsSame, answered, opened, rolled_back};
+ghost use Rattle.wat_steps.specs.Asking.{asking, refused, broken_off};
+ghost use Rattle.wat_steps.specs.Statements.{begun, back_to, committed, next_number, answer_saying, altered};
 ghost use Rattle.wat_steps.specs.Visiting.{IsSeen, wants_of, visited};
-ghost use Rattle.wat_steps.specs.Step.{IsStep, Stays, replied};
+ghost use Rattle.wat_steps.specs.Step.{IsStep, Stays, replied, closed};
 ghost use Rattle.wat_tied.specs.Tied.{IsFormed, IsTied, parts_in};
 
 /// Where the core is tied to the law of isolation, its committed transactions are serial, and each open one follows on
@@ -94,4 +96,21 @@ pub fn answer_law()
         → (change : Change) → next run ≡ ToChange change → (l : Listing) → listing_at (schema_of e) (changed_table change) ≡ Some l
         → (other : Row) → standing_row e l change ≡ Some other → AreFree e.held c (change_wants l.def change []) → IsSame (duplicate c e run l change) after → IsTied after }
     ensures locked { (e after : CoreState) (c : ℕ) (run : Run) → IsTied e → e.stop ≡ None → (e.connections c).work ≡ Some run → (against : Against) → IsSame (refused c e run (Locked against)) after → IsTied after }
+{}
+
+/// The end of a transaction leaves the core tied: COMMIT, by which the serial history grows by one transaction; ROLLBACK, a deadlock and the end
+/// of the script, by which all that stands is undone. So do ROLLBACK TO SAVEPOINT, by which the changes since then are undone, and a CREATE or
+/// DROP while no transaction is open, which is a transaction of its own.
+pub fn end_law()
+    ensures commits { (e after : CoreState) (c : ℕ) → IsTied e → e.stop ≡ None → (e.connections c).work ≡ None → (o : OpenTransaction) → (e.connections c).transaction ≡ Some o
+        → (span : Span) (more : List Span) → (e.connections c).left ≡ span ∷ more → (moment : ℕ) → IsSame (committed c moment (Some o) e) after → IsTied after }
+    ensures rolls_back { (e after : CoreState) (c : ℕ) (answer : Answer) → IsTied e → (e.connections c).work ≡ None → (o : OpenTransaction) → (e.connections c).transaction ≡ Some o
+        → (span : Span) (more : List Span) → (e.connections c).left ≡ span ∷ more → IsSame (answered c (rolled_back c e) answer []) after → IsTied after }
+    ensures breaks_off { (e after : CoreState) (c : ℕ) (run : Run) → IsTied e → e.stop ≡ None → (e.connections c).work ≡ Some run → (cycle : List Edge) → IsSame (broken_off c e run cycle) after → IsTied after }
+    ensures closes { (e after : CoreState) (c : ℕ) → IsTied e → (e.connections c).work ≡ None → (o : OpenTransaction) → (e.connections c).transaction ≡ Some o → IsSame (closed c e) after → IsTied after }
+    ensures goes_back { (e after : CoreState) (c : ℕ) → IsTied e → e.stop ≡ None → (e.connections c).work ≡ None → (span : Span) (more : List Span) → (e.connections c).left ≡ span ∷ more
+        → (save : Name × ℕ) (earlier : List (Name × ℕ)) → IsSame (back_to c save.0 (save ∷ earlier) e) after → IsTied after }
+    ensures alters { (e after : CoreState) (c : ℕ) → IsTied e → e.stop ≡ None → ((d : ℕ) → (e.connections d).transaction ≡ None) → (span : Span) (more : List Span) → (e.connections c).left ≡ span ∷ more
+        → (written : Statement) → parsed_at (e.connections c).script span ≡ Ok written → (moment : ℕ) (t : Tables) → apply_all (meaning e.now written).acts e.now ≡ Some t
+        → IsSame (altered c moment (answer_saying (next_number e) (meaning e.now written).answer) (meaning e.now written).acts t e) after → IsTied after }
 {}

@@ -3,4 +3,4 @@
 
 mod laws;
 
-pub use laws::{answer_law, begun_law, change_law, quiet_law, tied_laws, visit_law};
+pub use laws::{answer_law, begun_law, change_law, end_law, quiet_law, tied_laws, visit_law};
