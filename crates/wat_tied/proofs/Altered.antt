@@ -26,8 +26,9 @@ use Rattle.wat_scans.specs.Look.{look, IsOf}
 use Rattle.wat_scans.specs.Running.{Run}
 use Rattle.wat_steps.specs.State.{ConnectionState, CoreState, schema_of}
 use Rattle.wat_steps.specs.Statements.{answer_saying, altered}
-use Rattle.wat_tied.specs.Tied.{AreStanding, stood_in, made_in, standing_in, GoesWith, IsIdle, Ghost, Ties, IsTied}
+use Rattle.wat_tied.specs.Tied.{AreStanding, stood_in, made_in, standing_in, GoesWith, IsIdle, IsInside, IsAbsent, Ghost, Ties, IsTied}
 use Rattle.wat_tied.proofs.Alike.{alike}
+use Rattle.wat_tied.proofs.Renewed.{has_work}
 use Rattle.wat_tied.proofs.Answered.{done, done_here, done_there, part_of}
 
 says_it : (number : ℕ) (r other : Meant) → says (answer_saying number r) ≡ Some other → r ≡ other
@@ -116,6 +117,12 @@ module _ (e : CoreState) (g : Ghost) (ties : Ties e g) (c : ℕ) (going : e.stop
   none_stands : (d : ℕ) → standing_in (after.connections d).transaction (after.connections d).work ≡ []
   none_stands d = λ j. reverse (stood_in (closed_then d j) ++ made_in (rests_then d j))
 
+  absent_then : (d : ℕ) → (IsInside e d → ⊥) → IsAbsent (after.connections d)
+  absent_then d out = ⊎_elim
+      (λ (m : d ≡ c). absurd (has_work e g ties c span more first (subst (λ n. IsInside e n → ⊥) m out)))
+      (λ (ne : d ≡ c → ⊥). subst IsAbsent (sym (done_there c d mid answer acts ne)) (ties.outside d out))
+      (cases_eq d c)
+
   pub altered_tied : IsTied after
   altered_tied = record {
     ghost = record { state = then_law; entries = λ d. []; work = λ d. []; history = g.history ++ commit ∷ [] };
@@ -137,6 +144,7 @@ module _ (e : CoreState) (g : Ghost) (ties : Ties e g) (c : ℕ) (going : e.stop
       idle = λ d. subst (IsIdle (s.conns d) [] []) (sym (closed_then d)) (idle d, refl, refl);
       parts = λ d p m. absurd m;
       serial = serial;
+      outside = λ d out. absent_then d (λ i. out (record { from_one = i.from_one; within = i.within }));
       works = λ on d. subst (λ (z : Option Run). GoesWith (catalog_of t) (after.connections d) z []) (sym (rests_then d)) refl;
     };
   }

@@ -35,7 +35,7 @@ use Rattle.wat_tied.proofs.Begun.{here}
 use Rattle.wat_tied.proofs.Entered.{no_work}
 use Rattle.wat_tied.proofs.Granted.{there}
 use Rattle.wat_tied.proofs.Keys as keys
-use Rattle.wat_tied.proofs.Renewed.{renewed, renewal}
+use Rattle.wat_tied.proofs.Renewed.{renewed, renewal, has_work}
 use Rattle.wat_tied.proofs.Undone.{undo_items, IsUndone, undo_all}
 
 abbrev back_act : Change → Act
@@ -132,6 +132,8 @@ module _ (e : CoreState) (g : Ghost) (ties : Ties e g) (c : ℕ) (going : e.stop
           relates = answered_relates c mid t answer acts (record { scheme = b.relates.scheme; now = b.relates.now; base = b.relates.base; locks = b.relates.locks; vacant = b.relates.vacant });
           same = b.same;
           stop = sym (ap (λ (z : CoreState). z.stop) b.others_same);
+          count = sym (ap (λ (z : CoreState). z.count) b.others_same);
+          outside = λ out. absurd (has_work e g ties c span more first out);
           here = done_here c mid before span more answer acts (here u c (record (u.connections c) { transaction = Some then_open }) ∙ ap (λ (f : ℕ → ConnectionState). record (f c) { transaction = Some then_open }) connections) first;
           there = λ d ne. done_there c d mid answer acts ne ∙ (there u c (record (u.connections c) { transaction = Some then_open }) d ne ∙ ap (λ (f : ℕ → ConnectionState). f d) connections);
           others = b.others;

@@ -12,8 +12,9 @@ use Rattle.wat_scans.proofs.Planned.{task_planned}
 use Rattle.wat_steps.specs.State.{OpenTransaction, ConnectionState, CoreState, schema_of, with_connection}
 use Rattle.wat_steps.specs.Answering.{IsSame, no_changes, opened, transaction_of}
 use Rattle.wat_steps.specs.Statements.{begun}
-use Rattle.wat_tied.specs.Tied.{AreStanding, standing_in, GoesWith, Ghost, Ties, IsTied}
+use Rattle.wat_tied.specs.Tied.{AreStanding, standing_in, GoesWith, IsInside, Ghost, Ties, IsTied}
 use Rattle.wat_tied.proofs.Placed.{begun_placed}
+use Rattle.wat_tied.proofs.Renewed.{has_work}
 use Rattle.wat_tied.proofs.Same.{same_ties}
 use Rattle.wat_tied.proofs.Updated.{with_tied}
 
@@ -55,12 +56,13 @@ goes_open e k t (Some run) g c h = record {
   has_transaction = refl;
 }
 
-pub opened_tied : (e : CoreState) (g : Ghost) (c : ℕ) → Ties e g → Ties (opened c e) g
-opened_tied e g c ties =
+pub opened_tied : (e : CoreState) (g : Ghost) (c : ℕ) → Ties e g → ((IsInside e c → ⊥) → ⊥) → Ties (opened c e) g
+opened_tied e g c ties present =
     let k : ConnectionState = e.connections c in
     with_tied e g c (record k { transaction = Some (transaction_of c e) }) ties (record {
       standing = subst (λ changes. AreStanding (schema_of e) changes (g.state.conns c).standing) (sym (stands_open k.transaction k.work)) (ties.standing c);
       idle = tt;
+      outside = λ out. absurd (present out);
       works = λ going. goes_open e k (transaction_of c e) k.work g c (ties.works going c);
     })
 
@@ -77,6 +79,7 @@ begun_here e g c ties free open_one span more first written read x checked stepp
     with_tied e g c (record k { work = Some run }) ties (record {
       standing = subst (λ (work : Option Run). AreStanding (schema_of e) (standing_in k.transaction work) (g.state.conns c).standing) free (ties.standing c);
       idle = ties.idle c;
+      outside = λ out. absurd (has_work e g ties c span more first out);
       works = λ going. record {
         span = span;
         more = more;
@@ -107,6 +110,6 @@ begun_tied e after c tied free span more first written read x checked stepped sa
       let k : ConnectionState = record (e.connections c) { transaction = Some (transaction_of c e) } in
       let at : (opened c e).connections c ≡ k = here e c k in
       same_ties (begun c (opened c e) (Ok x)).1 after tied.ghost same
-      (begun_here (opened c e) tied.ghost c (opened_tied e tied.ghost c tied.ties) (ap (λ (q : ConnectionState). q.work) at ∙ free) (ap (λ (q : ConnectionState). is_some q.transaction) at)
+      (begun_here (opened c e) tied.ghost c (opened_tied e tied.ghost c tied.ties (has_work e tied.ghost tied.ties c span more first)) (ap (λ (q : ConnectionState). q.work) at ∙ free) (ap (λ (q : ConnectionState). is_some q.transaction) at)
       span more (ap (λ (q : ConnectionState). q.left) at ∙ first) written (ap (λ (q : ConnectionState). parsed_at q.script span) at ∙ read) x checked stepped);
 }

@@ -35,7 +35,7 @@ use Rattle.wat_tied.proofs.Granted.{there, not_idle, working}
 use Rattle.wat_tied.proofs.Keys as keys
 use Rattle.wat_tied.proofs.Moved.{row_given, moved}
 use Rattle.wat_tied.proofs.Reading.{adds}
-use Rattle.wat_tied.proofs.Renewed.{renewed, renewal}
+use Rattle.wat_tied.proofs.Renewed.{renewed, renewal, has_work}
 use Rattle.wat_tied.proofs.Same.{same_ties}
 use Rattle.wat_tied.proofs.Spots.{change_of, spots_right}
 
@@ -136,6 +136,8 @@ module _ (e : CoreState) (g : Ghost) (ties : Ties e g) (c : ℕ) (run : Run) (un
     relates = related.0;
     same = related.1;
     stop = refl;
+    count = refl;
+    outside = λ out. absurd (has_work e g ties c was.span was.more was.first out);
     here = here e c k;
     there = there e c k;
     others = λ d ne. put-other nat_eq nat_same s.conns c new d ne;

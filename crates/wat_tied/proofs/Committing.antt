@@ -29,7 +29,7 @@ use Rattle.wat_tied.proofs.Answered.{done, done_here, done_there, answered_relat
 use Rattle.wat_tied.proofs.Begun.{here}
 use Rattle.wat_tied.proofs.Ending.{seen_by, left_with, freed_relates}
 use Rattle.wat_tied.proofs.Granted.{there}
-use Rattle.wat_tied.proofs.Renewed.{renewed, renewal}
+use Rattle.wat_tied.proofs.Renewed.{renewed, renewal, has_work}
 use Rattle.wat_tied.proofs.Same.{same_ties}
 use Rattle.wat_tied.proofs.Serially.{follows}
 
@@ -94,6 +94,8 @@ module _ (e : CoreState) (g : Ghost) (ties : Ties e g) (c : ℕ) (going : e.stop
     relates = answered_relates c mid t answer [] related;
     same = refl;
     stop = refl;
+    count = refl;
+    outside = λ out. absurd (has_work e g ties c span more first out);
     here = done_here c mid with_none span more answer [] (here e c with_none) first;
     there = λ d ne. done_there c d mid answer [] ne ∙ there e c with_none d ne;
     others = λ d ne. put-other nat_eq nat_same s.conns c (law.idle sql) d ne;

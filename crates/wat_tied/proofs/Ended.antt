@@ -20,14 +20,14 @@ use Rattle.wat_steps.specs.Changing.{made, undone}
 use Rattle.wat_steps.specs.Answering.{IsSame, answered, ended, rolled_back, rolled_back_from}
 use Rattle.wat_steps.specs.Asking.{broken_off}
 use Rattle.wat_steps.specs.Step.{closed}
-use Rattle.wat_tied.specs.Tied.{Relates, AreStanding, stood_in, made_in, standing_in, IsGoing, GoesWith, IsIdle, Ghost, Ties, IsTied}
+use Rattle.wat_tied.specs.Tied.{Relates, AreStanding, stood_in, made_in, standing_in, IsGoing, GoesWith, IsIdle, IsInside, Ghost, Ties, IsTied}
 use Rattle.wat_tied.proofs.Answered.{done, done_here, done_there, answered_relates}
 use Rattle.wat_tied.proofs.Begun.{here}
 use Rattle.wat_tied.proofs.Changed.{fold_append}
 use Rattle.wat_tied.proofs.Ending.{left_with, freed, freed_relates}
 use Rattle.wat_tied.proofs.Granted.{there, working}
 use Rattle.wat_tied.proofs.Refused.{same_tied}
-use Rattle.wat_tied.proofs.Renewed.{renewed, renewal}
+use Rattle.wat_tied.proofs.Renewed.{renewed, renewal, has_work}
 use Rattle.wat_tied.proofs.Undone.{IsUndone, undo_all}
 
 -- the core after the end: all but the connection is as it was after the undoing, less its locks and vacant keys
@@ -39,6 +39,8 @@ pub record IsEnd (e u after : CoreState) (c : ℕ) (k : ConnectionState) : Type 
   pub there : (d : ℕ) → (d ≡ c → ⊥) → after.connections d ≡ u.connections d
   pub schema : schema_of after ≡ schema_of u
   pub stop : after.stop ≡ u.stop
+  pub count : after.count ≡ u.count
+  pub present : (IsInside e c → ⊥) → ⊥
   pub base : after.base ≡ u.base
   pub committed : after.committed ≡ u.committed
   pub relates : (t : law.State sql) → Relates (freed c u.committed u) t → Relates after t
@@ -67,6 +69,8 @@ end_tied e g ties c u k after end = finish r.0 (subst (λ (z : CoreState). IsUnd
             relates = end.relates gone (freed_relates u t b.relates c t.base t.history u.committed b.relates.base);
             same = end.schema ∙ b.same;
             stop = end.stop ∙ sym (ap (λ (z : CoreState). z.stop) b.others_same);
+            count = end.count ∙ sym (ap (λ (z : CoreState). z.count) b.others_same);
+            outside = λ out. absurd (end.present out);
             here = end.here;
             there = λ d ne. end.there d ne ∙ sym (ap (λ (z : CoreState). z.connections d) b.others_same);
             others = λ d ne. put-other nat_eq nat_same t.conns c (law.idle sql) d ne ∙ b.others d ne;
@@ -112,6 +116,8 @@ deadlock_tied e after c run tied going under cycle same =
       there = λ d ne. done_there c d (ended c u) (Deadlock cycle) [] ne ∙ there u c (record (u.connections c) { transaction = None }) d ne;
       schema = refl;
       stop = refl;
+      count = refl;
+      present = has_work e g tied.ties c was.span was.more was.first;
       base = refl;
       committed = refl;
       relates = λ t r. answered_relates c (ended c u) t (Deadlock cycle) [] (ends_relate c u (record (u.connections c) { transaction = None }) t r);
@@ -143,6 +149,9 @@ deadlock_tied e after c run tied going under cycle same =
 
 -- ---- ROLLBACK, and the end of the script
 
+none_some : (o : OpenTransaction) (t : Option OpenTransaction) → t ≡ None → t ≡ Some o → ⊥
+none_some o t e f = cc
+
 module _ (e : CoreState) (g : Ghost) (ties : Ties e g) (c : ℕ) (resting : (e.connections c).work ≡ None) (o : OpenTransaction) (opened : (e.connections c).transaction ≡ Some o) where
   abbrev u : CoreState
   u = undone c o.standing e
@@ -155,6 +164,9 @@ module _ (e : CoreState) (g : Ghost) (ties : Ties e g) (c : ℕ) (resting : (e.c
 
   connections : u.connections ≡ e.connections
   connections = undone_connections c (map inverse (reverse o.standing)) e
+
+  has_open : (IsInside e c → ⊥) → ⊥
+  has_open out = none_some o (e.connections c).transaction (ties.outside c out).no_transaction opened
 
   pub rolled_is : rolled_back c e ≡ ended c u
   rolled_is = ap (λ t. rolled_back_from c t e) opened
@@ -171,6 +183,8 @@ module _ (e : CoreState) (g : Ghost) (ties : Ties e g) (c : ℕ) (resting : (e.c
     there = λ d ne. done_there c d (ended c u) answer [] ne ∙ there u c (record (u.connections c) { transaction = None }) d ne;
     schema = refl;
     stop = refl;
+    count = refl;
+    present = has_open;
     base = refl;
     committed = refl;
     relates = λ t r. answered_relates c (ended c u) t answer [] (ends_relate c u (record (u.connections c) { transaction = None }) t r);
@@ -185,6 +199,8 @@ module _ (e : CoreState) (g : Ghost) (ties : Ties e g) (c : ℕ) (resting : (e.c
     there = λ d ne. there (ended c u) c (record ((ended c u).connections c) { has_ended = true }) d ne ∙ there u c (record (u.connections c) { transaction = None }) d ne;
     schema = refl;
     stop = refl;
+    count = refl;
+    present = has_open;
     base = refl;
     committed = refl;
     relates = λ t r. record { scheme = r.scheme; now = r.now; base = r.base; locks = r.locks; vacant = r.vacant };

@@ -22,7 +22,7 @@ use Rattle.wat_scans.specs.Look.{IsOf}
 use Rattle.wat_scans.specs.Running.{Run}
 use Rattle.wat_steps.specs.State.{OpenTransaction, ConnectionState, CoreState, schema_of}
 use Rattle.wat_steps.specs.Answering.{answered}
-use Rattle.wat_tied.specs.Tied.{Relates, AreStanding, RecordedPart, IsDetermined, items_in, stood_in, standing_in, GoesWith, Ghost, Ties, IsTied}
+use Rattle.wat_tied.specs.Tied.{Relates, AreStanding, RecordedPart, IsDetermined, items_in, stood_in, standing_in, GoesWith, IsInside, Ghost, Ties, IsTied}
 use Rattle.wat_tied.proofs.Answered.{done, done_here, done_there, answered_relates, part_of}
 use Rattle.wat_tied.proofs.Granted.{not_idle}
 use Rattle.wat_tied.proofs.Renewed.{renewed, renewal}
@@ -46,7 +46,7 @@ no_work e g ties c going resting = subst (λ (z : Option Run). GoesWith (schema_
 
 module _ (e : CoreState) (g : Ghost) (ties : Ties e g) (c : ℕ) (going : e.stop ≡ None) (resting : (e.connections c).work ≡ None)
     (mid : CoreState) (before : ConnectionState) (but : IsBut e mid c before) (t : OpenTransaction) (opened : before.transaction ≡ Some t) (stands : t.standing ≡ stood_in (e.connections c).transaction)
-    (span : Span) (more : List Span) (first : before.left ≡ span ∷ more) (answer : Answer)
+    (span : Span) (more : List Span) (first : before.left ≡ span ∷ more) (present : (IsInside e c → ⊥) → ⊥) (answer : Answer)
     (means : (f : RowName → Option Row) (tables : Tables) → IsOf (schema_of e) f tables → Means 3 tables (part_of before span answer [])) where
   abbrev k : ConnectionState
   k = done span more before answer []
@@ -72,6 +72,8 @@ module _ (e : CoreState) (g : Ghost) (ties : Ties e g) (c : ℕ) (going : e.stop
       relates = answered_relates c mid g.state answer [] (but_relates e mid c before g.state but ties.relates);
       same = sym (ap (λ (z : CoreState). schema_of z) but.rest);
       stop = sym (ap (λ (z : CoreState). z.stop) but.rest);
+      count = sym (ap (λ (z : CoreState). z.count) but.rest);
+      outside = λ out. absurd (present out);
       here = done_here c mid before span more answer [] but.here first;
       there = λ d ne. done_there c d mid answer [] ne ∙ but.there d ne;
       others = λ d ne. refl;

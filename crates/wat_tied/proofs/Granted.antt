@@ -38,7 +38,7 @@ use Rattle.wat_tied.proofs.Next.{visit_progress}
 use Rattle.wat_tied.proofs.Placed.{visited_placed}
 use Rattle.wat_tied.proofs.Places as places
 use Rattle.wat_tied.proofs.Reading.{IsReadIn, long_stay, peeked}
-use Rattle.wat_tied.proofs.Renewed.{renewed, renewal}
+use Rattle.wat_tied.proofs.Renewed.{renewed, renewal, has_work}
 use Rattle.wat_tied.proofs.Same.{same_ties}
 use Rattle.wat_tied.proofs.Visiting.{same_wants, visit_read}
 
@@ -129,6 +129,8 @@ module _ (e : CoreState) (g : Ghost) (ties : Ties e g) (c : ℕ) (run : Run) (un
       relates = record { scheme = v.relates.scheme; now = v.relates.now; base = v.relates.base; locks = v.relates.locks; vacant = v.relates.vacant };
       same = refl;
       stop = refl;
+      count = refl;
+      outside = λ out. absurd (has_work e g ties c was.span was.more was.first out);
       here = here e c k;
       there = there e c k;
       others = v.others;

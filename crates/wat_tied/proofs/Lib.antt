@@ -9,6 +9,7 @@ pub mod Committing
 pub mod Ended
 pub mod Ending
 pub mod Entered
+pub mod Goes
 pub mod Granted
 pub mod Keys
 pub mod Moved
@@ -25,6 +26,8 @@ pub mod Replying
 pub mod Same
 pub mod Serially
 pub mod Spots
+pub mod Starting
+pub mod Stepping
 pub mod Stopped
 pub mod Undone
 pub mod Updated

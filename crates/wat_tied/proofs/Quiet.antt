@@ -1,5 +1,5 @@
 -- The core stays tied where a statement is answered at once while no transaction is open.
-use Rattle.std.proofs.Common.{◌≡◌, ℕ, ◌==◌, Bool, true, false, not, ◌&&◌, is_some, List, [], ◌∷◌, Option, Some, None, refl, sym, subst}
+use Rattle.std.proofs.Common.{◌≡◌, ℕ, ◌==◌, Bool, true, false, not, ◌&&◌, is_some, List, [], ◌∷◌, Option, Some, None, refl, sym, ◌∙◌, subst}
 use Rattle.wat_list.proofs.Members.{filter_has}
 use Rattle.wat_parse.specs.declared.script.Span.{Span}
 use Rattle.wat_locks.specs.declared.held.Held.{Held}
@@ -12,7 +12,7 @@ use Rattle.wat_conn.specs.declared.answer.Answer.{Answer}
 use Rattle.wat_scans.specs.Running.{Run}
 use Rattle.wat_steps.specs.State.{OpenTransaction, ConnectionState, CoreState, schema_of, with_connection}
 use Rattle.wat_steps.specs.Answering.{IsSame, with_answer, without_short, answered}
-use Rattle.wat_tied.specs.Tied.{AreStanding, standing_in, IsIdle, Ghost, Ties, IsTied}
+use Rattle.wat_tied.specs.Tied.{AreStanding, standing_in, IsIdle, IsAbsent, Ghost, Ties, IsTied}
 use Rattle.wat_tied.proofs.Same.{same_ties}
 use Rattle.wat_tied.proofs.Updated.{with_tied}
 
@@ -34,12 +34,20 @@ with_fewer e c g ties = record {
   idle = ties.idle;
   parts = ties.parts;
   serial = ties.serial;
+  outside = λ c out. ties.outside c (λ i. out (record { from_one = i.from_one; within = i.within }));
   works = ties.works;
 }
 
 same_transaction : (left : List Span) (k : ConnectionState) (answer : Answer) → (with_answer left k answer []).transaction ≡ k.transaction
 same_transaction [] k answer = refl
 same_transaction (span ∷ more) k answer = refl
+
+absent_left : (left : List Span) (k : ConnectionState) (answer : Answer) → left ≡ [] → k.left ≡ [] → (with_answer left k answer []).left ≡ []
+absent_left [] k answer none is = is
+absent_left (span ∷ more) k answer none is = absurd (cc)
+
+stays_absent : (k : ConnectionState) (answer : Answer) → IsAbsent k → IsAbsent (record (with_answer k.left k answer []) { work = None; request = None })
+stays_absent k answer is = record { no_transaction = same_transaction k.left k answer ∙ is.no_transaction; none_left = absent_left k.left k answer is.none_left is.none_left }
 
 nothing_recorded : (e : CoreState) (g : Ghost) (c : ℕ) (t : Option OpenTransaction) → t ≡ None → IsIdle (g.state.conns c) (g.entries c) (g.work c) t → g.work c ≡ []
 nothing_recorded e g c None none idle = idle.2
@@ -60,6 +68,7 @@ quiet_tied e after c answer tied free closed same =
                 subst (λ (t : Option OpenTransaction). AreStanding (schema_of e) (standing_in t None) (g.state.conns c).standing) (sym (same_transaction old.left old answer))
                 (subst (λ (work : Option Run). AreStanding (schema_of e) (standing_in old.transaction work) (g.state.conns c).standing) free (tied.ties.standing c));
             idle = subst (λ (t : Option OpenTransaction). IsIdle (g.state.conns c) (g.entries c) (g.work c) t) (sym (same_transaction old.left old answer)) (tied.ties.idle c);
+            outside = λ out. stays_absent old answer (tied.ties.outside c out);
             works = λ going. nothing_recorded e g c old.transaction closed (tied.ties.idle c);
           })));
     }

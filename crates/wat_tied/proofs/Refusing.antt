@@ -26,7 +26,7 @@ use Rattle.wat_tied.specs.Tied.{Relates, AreStanding, RecordedPart, IsDetermined
 use Rattle.wat_tied.proofs.Answered.{done, done_here, done_there, answered_relates, part_of, meant}
 use Rattle.wat_tied.proofs.Granted.{not_idle}
 use Rattle.wat_tied.proofs.Recorded.{view_of_reads, did_items, did_is, undone_view}
-use Rattle.wat_tied.proofs.Renewed.{renewed, renewal}
+use Rattle.wat_tied.proofs.Renewed.{renewed, renewal, has_work}
 use Rattle.wat_tied.proofs.Undone.{undo_items, IsUndone, undo_all}
 
 -- The statement is refused in a step in which its connection got other locks, and in which what is in `extra` was read.
@@ -99,6 +99,8 @@ module _ (e : CoreState) (g : Ghost) (ties : Ties e g) (c : ℕ) (run : Run) (un
           relates = answered_relates c u t answer [] b.relates;
           same = b.same;
           stop = sym (ap (λ (z : CoreState). z.stop) b.others_same);
+          count = sym (ap (λ (z : CoreState). z.count) b.others_same);
+          outside = λ out. absurd (has_work e g ties c was.span was.more was.first out);
           here = done_here c u (e.connections c) was.span was.more answer [] (ap (λ f. f c) connections) was.first;
           there = λ d ne. done_there c d u answer [] ne ∙ ap (λ f. f d) connections;
           others = λ d ne. b.others d ne ∙ others d ne;

@@ -1,5 +1,5 @@
 -- The core stays tied where what is known of the connection that made a step is known again: all other connections are as before.
-use Rattle.std.proofs.Common.{◌≡◌, ℕ, List, ◌++◌, None, nat_eq, sym, ap, ◌∙◌, subst, ⊎_elim}
+use Rattle.std.proofs.Common.{◌≡◌, ℕ, ◌≤◌, List, [], ◌∷◌, ◌++◌, None, nat_eq, sym, ap, ◌∙◌, subst, ⊎_elim}
 use Rattle.std.proofs.lemmas.Bool.{cases_eq}
 use Rattle.wat_list.specs.Has.{Has}
 use Rattle.wat_schema.specs.Catalog.{Catalog}
@@ -10,10 +10,11 @@ use Rattle.wat_isolation.specs.Machine as law
 use Rattle.wat_isolation.specs.Kept.{Kept}
 use Rattle.wat_isolation.specs.Sql.{sql}
 use Rattle.wat_isolation.proofs.Basics.{nat_same, put-same, put-other}
+use Rattle.wat_parse.specs.declared.script.Span.{Span}
 use Rattle.wat_history.specs.History.{Commit}
 use Rattle.wat_history.specs.Serial.{Serial}
 use Rattle.wat_steps.specs.State.{ConnectionState, CoreState, schema_of}
-use Rattle.wat_tied.specs.Tied.{Relates, AreStanding, RecordedPart, IsDetermined, Ghost, standing_in, items_in, IsIdle, GoesWith, Ties}
+use Rattle.wat_tied.specs.Tied.{Relates, AreStanding, RecordedPart, IsDetermined, Ghost, standing_in, items_in, IsIdle, GoesWith, IsInside, IsAbsent, Ties}
 
 -- what is known of the connection that made the step, and of the whole
 pub record Renews (e after : CoreState) (g : Ghost) (c : ℕ) (t : law.State sql) (k : ConnectionState) (entries : List RecordedPart) (work : List (Item sql)) (history : List Commit) : Type 0 where
@@ -21,6 +22,8 @@ pub record Renews (e after : CoreState) (g : Ghost) (c : ℕ) (t : law.State sql
   pub relates : Relates after t
   pub same : schema_of after ≡ schema_of e
   pub stop : after.stop ≡ e.stop
+  pub count : after.count ≡ e.count
+  pub outside : (IsInside e c → ⊥) → IsAbsent k
   pub here : after.connections c ≡ k
   pub there : (d : ℕ) → (d ≡ c → ⊥) → after.connections d ≡ e.connections d
   pub others : (d : ℕ) → (d ≡ c → ⊥) → t.conns d ≡ g.state.conns d
@@ -60,6 +63,9 @@ renewed e after g ties c t k entries work history r = record {
       (λ p has. subst (λ z. IsDetermined z p) (sym r.same) (r.parts p (subst (Has p) here_entries has)))
       (λ d ne p has. subst (λ z. IsDetermined z p) (sym r.same) (ties.parts d p (subst (Has p) (there_entries d ne) has)));
   serial = r.serial;
+  outside = by_connection (λ d. (IsInside after d → ⊥) → IsAbsent (after.connections d))
+      (λ out. subst IsAbsent (sym r.here) (r.outside (λ i. out (inside_then c i))))
+      (λ d ne out. subst IsAbsent (sym (r.there d ne)) (ties.outside d (λ i. out (inside_then d i))));
   works = λ going. let goes : e.stop ≡ None = sym r.stop ∙ going in
       by_connection (λ d. GoesWith (schema_of after) (after.connections d) (after.connections d).work (new.work d))
       (subst (λ z. GoesWith z (after.connections c) (after.connections c).work (new.work c)) (sym r.same)
@@ -70,6 +76,9 @@ renewed e after g ties c t k entries work history r = record {
   where
     new : Ghost
     new = renewal g c t entries work history
+
+    inside_then : (d : ℕ) → IsInside e d → IsInside after d
+    inside_then d i = record { from_one = i.from_one; within = subst (λ n. d ≤ n) (sym r.count) i.within }
 
     by_connection : (P : ℕ → Type 0) → P c → ((d : ℕ) → (d ≡ c → ⊥) → P d) → (d : ℕ) → P d
     by_connection P at_c at_others d = ⊎_elim (λ (s : d ≡ c). subst P (sym s) at_c) (λ (ne : d ≡ c → ⊥). at_others d ne) (cases_eq d c)
@@ -85,3 +94,10 @@ renewed e after g ties c t k entries work history r = record {
 
     there_work : (d : ℕ) → (d ≡ c → ⊥) → put nat_eq g.work c work d ≡ g.work d
     there_work d ne = put-other nat_eq nat_same g.work c work d ne
+
+none_some : (span : Span) (more left : List Span) → left ≡ [] → left ≡ span ∷ more → ⊥
+none_some span more left e f = cc
+
+-- a connection that has something to do is one of those that there are
+pub has_work : (e : CoreState) (g : Ghost) → Ties e g → (c : ℕ) (span : Span) (more : List Span) → (e.connections c).left ≡ span ∷ more → (IsInside e c → ⊥) → ⊥
+has_work e g ties c span more first out = none_some span more (e.connections c).left (ties.outside c out).none_left first

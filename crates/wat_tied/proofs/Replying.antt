@@ -29,7 +29,7 @@ use Rattle.wat_tied.proofs.Answered.{done, done_here, done_there, answered_relat
 use Rattle.wat_tied.proofs.Begun.{here}
 use Rattle.wat_tied.proofs.Granted.{there, working}
 use Rattle.wat_tied.proofs.Recorded.{view_of_reads, all_fit, reversed_has}
-use Rattle.wat_tied.proofs.Renewed.{renewed, renewal}
+use Rattle.wat_tied.proofs.Renewed.{renewed, renewal, has_work}
 use Rattle.wat_tied.proofs.Same.{same_ties}
 
 -- the answer says the reply
@@ -98,6 +98,8 @@ module _ (e : CoreState) (g : Ghost) (ties : Ties e g) (c : ℕ) (run : Run) (un
     relates = answered_relates c mid g.state answer acts (record { scheme = ties.relates.scheme; now = ties.relates.now; base = ties.relates.base; locks = ties.relates.locks; vacant = ties.relates.vacant });
     same = refl;
     stop = refl;
+    count = refl;
+    outside = λ out. absurd (has_work e g ties c was.span was.more was.first out);
     here = done_here c mid with_changes was.span was.more answer acts (here e c with_changes) was.first;
     there = λ d ne. done_there c d mid answer acts ne ∙ there e c with_changes d ne;
     others = λ d ne. refl;

@@ -40,6 +40,7 @@ reordered e g held vacant same_held same_vacant ties = record {
   idle = ties.idle;
   parts = ties.parts;
   serial = ties.serial;
+  outside = λ c out. ties.outside c (λ i. out (record { from_one = i.from_one; within = i.within }));
   works = ties.works;
 }
 

@@ -7,7 +7,8 @@ use Rattle.wat_scans.specs.Running.{Run}
 use Rattle.wat_steps.specs.State.{OpenTransaction, ConnectionState, CoreState, Progressed, schema_of, with_connection}
 use Rattle.wat_steps.specs.Answering.{with_answer}
 use Rattle.wat_steps.specs.Step.{Stays, GoesOrStops, IsStep}
-use Rattle.wat_tied.specs.Tied.{AreStanding, standing_in, IsIdle, Ghost, Ties, IsTied}
+use Rattle.wat_tied.specs.Tied.{AreStanding, standing_in, IsIdle, IsInside, IsAbsent, Ghost, Ties, IsTied}
+use Rattle.wat_tied.proofs.Renewed.{has_work}
 use Rattle.wat_tied.proofs.Same.{same_ties}
 use Rattle.wat_tied.proofs.Updated.{with_tied}
 
@@ -15,27 +16,31 @@ no_none : (reason : Reason) (stop : Option Reason) → stop ≡ Some reason → 
 no_none reason stop e f = cc
 
 -- where a connection changes neither its transaction nor its work after a stop
-still_tied : (e : CoreState) (g : Ghost) (c : ℕ) (reason : Reason) → e.stop ≡ Some reason → Ties e g → (k : ConnectionState) → k.transaction ≡ (e.connections c).transaction → k.work ≡ (e.connections c).work → Ties (with_connection c k e) g
-still_tied e g c reason stopped ties k transaction work =
+still_tied : (e : CoreState) (g : Ghost) (c : ℕ) (reason : Reason) → e.stop ≡ Some reason → Ties e g → (k : ConnectionState) → k.transaction ≡ (e.connections c).transaction → k.work ≡ (e.connections c).work
+    → ((IsInside e c → ⊥) → IsAbsent k) → Ties (with_connection c k e) g
+still_tied e g c reason stopped ties k transaction work outside =
     with_tied e g c k ties (record {
       standing =
           subst (λ (t : Option OpenTransaction). AreStanding (schema_of e) (standing_in t k.work) (g.state.conns c).standing) (sym transaction)
           (subst (λ (r : Option Run). AreStanding (schema_of e) (standing_in (e.connections c).transaction r) (g.state.conns c).standing) (sym work) (ties.standing c));
       idle = subst (λ (t : Option OpenTransaction). IsIdle (g.state.conns c) (g.entries c) (g.work c) t) (sym transaction) (ties.idle c);
+      outside = outside;
       works = λ going. absurd (no_none reason e.stop stopped going);
     })
 
-stays : (e after : CoreState) (c : ℕ) (a : Progressed) (reason : Reason) (left : List Span) (g : Ghost) → e.stop ≡ Some reason → Ties e g → Stays c e reason left a after → Ties after g
-stays e after c a reason [] g stopped ties h =
-    let k : ConnectionState = record (e.connections c) { has_ended = true } in same_ties (with_connection c k e) after g h.1 (still_tied e g c reason stopped ties k refl refl)
-stays e after c a reason (span ∷ more) g stopped ties h =
-    let k : ConnectionState = with_answer (span ∷ more) (e.connections c) (Stopped reason) [] in same_ties (with_connection c k e) after g h.1 (still_tied e g c reason stopped ties k refl refl)
+stays : (e after : CoreState) (c : ℕ) (a : Progressed) (reason : Reason) (left : List Span) (g : Ghost) → (e.connections c).left ≡ left → e.stop ≡ Some reason → Ties e g → Stays c e reason left a after → Ties after g
+stays e after c a reason [] g is stopped ties h =
+    let k : ConnectionState = record (e.connections c) { has_ended = true } in
+    same_ties (with_connection c k e) after g h.1 (still_tied e g c reason stopped ties k refl refl (λ out. let absent = ties.outside c out in record { no_transaction = absent.no_transaction; none_left = absent.none_left }))
+stays e after c a reason (span ∷ more) g is stopped ties h =
+    let k : ConnectionState = with_answer (span ∷ more) (e.connections c) (Stopped reason) [] in
+    same_ties (with_connection c k e) after g h.1 (still_tied e g c reason stopped ties k refl refl (λ out. absurd (has_work e g ties c span more is out)))
 
 pub stopped_tied : (e after : CoreState) (c : ℕ) (a : Progressed) (reason : Reason) → IsTied e → e.stop ≡ Some reason → IsStep e c a after → IsTied after
 unfolding IsStep
 stopped_tied e after c a reason tied stopped step = record {
   ghost = tied.ghost;
-  ties = stays e after c a reason (e.connections c).left tied.ghost stopped tied.ties (subst (λ (stop : Option Reason). GoesOrStops c e stop a after) stopped step);
+  ties = stays e after c a reason (e.connections c).left tied.ghost refl stopped tied.ties (subst (λ (stop : Option Reason). GoesOrStops c e stop a after) stopped step);
 }
 
 -- ---- the first stop
@@ -51,11 +56,12 @@ stop_ties e g reason ties = record {
   idle = ties.idle;
   parts = ties.parts;
   serial = ties.serial;
+  outside = λ c out. ties.outside c (λ i. out (record { from_one = i.from_one; within = i.within }));
   works = λ going. absurd (no_none reason (Some reason) refl going);
 }
 
 pub stops_tied : (e after : CoreState) (c : ℕ) (a : Progressed) (reason : Reason) → IsTied e → Stays c (record e { stop = Some reason }) reason (e.connections c).left a after → IsTied after
 stops_tied e after c a reason tied step = record {
   ghost = tied.ghost;
-  ties = stays (record e { stop = Some reason }) after c a reason (e.connections c).left tied.ghost refl (stop_ties e tied.ghost reason tied.ties) step;
+  ties = stays (record e { stop = Some reason }) after c a reason (e.connections c).left tied.ghost refl refl (stop_ties e tied.ghost reason tied.ties) step;
 }

@@ -1,5 +1,5 @@
 -- How the state of the core is tied to a state of the law of isolation.
-use Rattle.std.specs.Prelude.{◌≡◌, ℕ, nat_le, true, is_some, slice_get, List, [], ◌∷◌, ◌++◌, map, reverse, Option, Some, None, Ok}
+use Rattle.std.specs.Prelude.{◌≡◌, ℕ, ◌≤◌, nat_le, true, is_some, slice_get, List, [], ◌∷◌, ◌++◌, map, reverse, Option, Some, None, Ok}
 use Rattle.wat_list.specs.Has.{Has}
 use Rattle.wat_value.specs.declared.change.Change.{Change}
 use Rattle.wat_value.specs.Changes.{RowName, row_before, row_after}
@@ -156,6 +156,16 @@ abbrev pub IsIdle : law.Connection sql → List RecordedPart → List (Item sql)
 IsIdle k entries work None = (k ≡ law.idle sql) × (entries ≡ []) × (work ≡ [])
 IsIdle k entries work (Some t) = Unit {0}
 
+-- one of the connections that there are
+pub record IsInside (e : CoreState) (c : ℕ) : Type 0 where
+  pub from_one : 1 ≤ c
+  pub within : c ≤ e.count
+
+-- it has nothing to do, and no transaction open
+pub record IsAbsent (k : ConnectionState) : Type 0 where
+  pub no_transaction : k.transaction ≡ None
+  pub none_left : k.left ≡ []
+
 pub record Ties (e : CoreState) (g : Ghost) : Type 0 where
   pub schema : IsCatalog (schema_of e)
   pub kept : Kept sql g.state
@@ -165,6 +175,7 @@ pub record Ties (e : CoreState) (g : Ghost) : Type 0 where
   pub idle : (c : ℕ) → IsIdle (g.state.conns c) (g.entries c) (g.work c) (e.connections c).transaction
   pub parts : (c : ℕ) (p : RecordedPart) → Has p (g.entries c) → IsDetermined (schema_of e) p
   pub serial : Serial 3 e.base g.history e.committed
+  pub outside : (c : ℕ) → (IsInside e c → ⊥) → IsAbsent (e.connections c)
   -- until a stop
   pub works : e.stop ≡ None → (c : ℕ) → GoesWith (schema_of e) (e.connections c) (e.connections c).work (g.work c)
 

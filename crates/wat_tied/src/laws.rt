@@ -38,6 +38,7 @@ ghost use Rattle.wat_steps.specs.Asking.{asking, refused, broken_off};
 ghost use Rattle.wat_steps.specs.Statements.{begun, back_to, committed, next_number, answer_saying, altered};
 ghost use Rattle.wat_steps.specs.Visiting.{IsSeen, wants_of, visited};
 ghost use Rattle.wat_steps.specs.Step.{IsStep, Stays, replied, closed};
+ghost use Rattle.wat_tied.specs.Ready.{IsReady, RunsReady};
 ghost use Rattle.wat_tied.specs.Tied.{IsFormed, IsTied, parts_in};
 
 /// Where the core is tied to the law of isolation, its committed transactions are serial, and each open one follows on
@@ -113,4 +114,11 @@ pub fn end_law()
     ensures alters { (e after : CoreState) (c : ℕ) → IsTied e → e.stop ≡ None → ((d : ℕ) → (e.connections d).transaction ≡ None) → (span : Span) (more : List Span) → (e.connections c).left ≡ span ∷ more
         → (written : Statement) → parsed_at (e.connections c).script span ≡ Ok written → (moment : ℕ) (t : Tables) → apply_all (meaning e.now written).acts e.now ≡ Some t
         → IsSame (altered c moment (answer_saying (next_number e) (meaning e.now written).answer) (meaning e.now written).acts t e) after → IsTied after }
+{}
+
+/// Every step leaves the core tied, and so does every list of steps from the beginning, whatever the connections are asked and whichever of them
+/// goes on: visits, changes, answers, waits, ends, stops. Each change is ready when it comes: it is formed, and its row is now as it finds it.
+pub fn steps_keep_tied()
+    ensures step { (e after : CoreState) (c : ℕ) (a : Progressed) → IsTied e → IsReady e c → IsStep e c a after → IsTied after }
+    ensures runs { (base : Tables) (scripts : List (List ℕ)) → IsTables base → (steps : List ℕ) (last : CoreState) → RunsReady (fresh base scripts) steps last → IsTied last }
 {}

@@ -3,4 +3,6 @@
 
 mod laws;
 
-pub use laws::{answer_law, begun_law, change_law, end_law, quiet_law, tied_laws, visit_law};
+pub use laws::{
+    answer_law, begun_law, change_law, end_law, quiet_law, steps_keep_tied, tied_laws, visit_law,
+};
