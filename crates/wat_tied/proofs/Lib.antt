@@ -1,11 +1,14 @@
+pub mod Aimed
 pub mod Alike
 pub mod Altered
 pub mod Answered
+pub mod AtThree
 pub mod Backs
 pub mod Beginning
 pub mod Begun
 pub mod Changed
 pub mod Committing
+pub mod Covered
 pub mod Ended
 pub mod Ending
 pub mod Entered

@@ -1,5 +1,5 @@
 -- The next change of a statement may be made as it says.
-use Rattle.std.specs.Prelude.{◌≡◌, ℕ, List, [], ◌∷◌, Some}
+use Rattle.std.specs.Prelude.{◌≡◌, ℕ, nat_le, true, List, [], ◌∷◌, Some}
 use Rattle.wat_value.specs.declared.change.Change.{Change}
 use Rattle.wat_value.specs.Changes.{row_before}
 use Rattle.wat_schema.specs.Tables.{Row}
@@ -22,3 +22,12 @@ IsReady e c = (run : Run) → (e.connections c).work ≡ Some run → (change : 
 abbrev pub RunsReady : CoreState → List ℕ → CoreState → Type 0
 RunsReady e [] last = e ≡ last
 RunsReady e (c ∷ more) last = IsReady e c × (a : Progressed) × (after : CoreState) × IsStep e c a after × RunsReady after more last
+
+-- the next change of the connection, where a change is next, is one of a statement at level 3
+abbrev pub IsAtThree : CoreState → ℕ → Type 0
+IsAtThree e c = (run : Run) → (e.connections c).work ≡ Some run → (change : Change) → next run ≡ ToChange change → nat_le 3 run.level ≡ true
+
+-- steps one after another, each change being one of a statement at level 3; reads come at any level
+abbrev pub RunsAtThree : CoreState → List ℕ → CoreState → Type 0
+RunsAtThree e [] last = e ≡ last
+RunsAtThree e (c ∷ more) last = IsAtThree e c × (a : Progressed) × (after : CoreState) × IsStep e c a after × RunsAtThree after more last

@@ -1,4 +1,4 @@
-ghost use Rattle.std.specs.Prelude.{◌≡◌, ℕ, [], ◌∷◌, List, None, Some, Ok};
+ghost use Rattle.std.specs.Prelude.{◌≡◌, ℕ, nat_le, true, [], ◌∷◌, List, None, Some, Ok};
 ghost use Rattle.wat_value.specs.declared.change.Change.{Change};
 ghost use Rattle.wat_value.specs.Changes.{changed_table, row_before};
 ghost use Rattle.wat_value.specs.Indexes.{index_numbers};
@@ -30,6 +30,8 @@ ghost use Rattle.wat_scans.specs.declared.scan.Taken.{Taken};
 ghost use Rattle.wat_scans.specs.Recorded.{index_of_step};
 ghost use Rattle.wat_scans.specs.Running.{Run, Next.ToVisit, Next.ToChange, Next.ToReply, Next.ToRefuse, next, after_visit, row_changed};
 ghost use Rattle.wat_scans.specs.Scans.{Progress};
+ghost use Rattle.wat_history.specs.Connection.{Part};
+ghost use Rattle.wat_history.specs.History.{Commit};
 ghost use Rattle.wat_history.specs.Serial.{Follows, Serial};
 ghost use Rattle.wat_steps.specs.State.{OpenTransaction, CoreState, Progressed, schema_of};
 ghost use Rattle.wat_steps.specs.Fresh.{fresh};
@@ -38,7 +40,7 @@ ghost use Rattle.wat_steps.specs.Asking.{asking, refused, broken_off};
 ghost use Rattle.wat_steps.specs.Statements.{begun, back_to, committed, next_number, answer_saying, altered};
 ghost use Rattle.wat_steps.specs.Visiting.{IsSeen, wants_of, visited};
 ghost use Rattle.wat_steps.specs.Step.{IsStep, Stays, replied, closed};
-ghost use Rattle.wat_tied.specs.Ready.{IsReady, RunsReady};
+ghost use Rattle.wat_tied.specs.Ready.{IsReadyFor, IsReady, RunsReady, RunsAtThree};
 ghost use Rattle.wat_tied.specs.Tied.{IsFormed, IsTied, parts_in};
 
 /// Where the core is tied to the law of isolation, its committed transactions are serial, and each open one follows on
@@ -121,4 +123,14 @@ pub fn end_law()
 pub fn steps_keep_tied()
     ensures step { (e after : CoreState) (c : ℕ) (a : Progressed) → IsTied e → IsReady e c → IsStep e c a after → IsTied after }
     ensures runs { (base : Tables) (scripts : List (List ℕ)) → IsTables base → (steps : List ℕ) (last : CoreState) → RunsReady (fresh base scripts) steps last → IsTied last }
+    // Where all changes come at level 3 nothing else is asked.
+    ensures at_three { (base : Tables) (scripts : List (List ℕ)) → IsTables base → (steps : List ℕ) (last : CoreState) → RunsAtThree (fresh base scripts) steps last → IsTied last }
+    ensures serial { (base : Tables) (scripts : List (List ℕ)) → IsTables base → (steps : List ℕ) (last : CoreState) → RunsAtThree (fresh base scripts) steps last
+        → (history : List Commit) × Serial 3 last.base history last.committed × ((c : ℕ) → (parts : List Part) × (after : Tables) × Follows 3 last.committed parts after) }
+{}
+
+/// At level 3 the next change of a statement is ready: its rows fit, and a row that it updates or deletes is now as it was met, whatever the other
+/// connections did since then.
+pub fn read_law()
+    ensures { (e : CoreState) (c : ℕ) (run : Run) → IsTied e → e.stop ≡ None → (e.connections c).work ≡ Some run → nat_le 3 run.level ≡ true → (change : Change) → next run ≡ ToChange change → IsReadyFor e change }
 {}

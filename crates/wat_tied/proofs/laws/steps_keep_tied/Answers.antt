@@ -1,4 +1,6 @@
-use Rattle.wat_tied.proofs.Stepping.{step_tied, sessions_tied}
+use Rattle.wat_tied.specs.Tied.{IsTied, parts_in}
+use Rattle.wat_tied.proofs.Serially.{open_serial}
+use Rattle.wat_tied.proofs.Stepping.{step_tied, sessions_tied, sessions_at_three}
 use Rattle.wat_tied.proofs.laws.steps_keep_tied.Goals as goal
 
 pub returns-clause-step : goal.returns-clause-step
@@ -6,3 +8,11 @@ returns-clause-step x e after c a tied ready step = step_tied e after c a tied r
 
 pub returns-clause-runs : goal.returns-clause-runs
 returns-clause-runs x base scripts tables steps last runs = sessions_tied base scripts tables steps last runs
+
+pub returns-clause-at_three : goal.returns-clause-at_three
+returns-clause-at_three x base scripts tables steps last runs = sessions_at_three base scripts tables steps last runs
+
+pub returns-clause-serial : goal.returns-clause-serial
+returns-clause-serial x base scripts tables steps last runs =
+    let tied : IsTied last = sessions_at_three base scripts tables steps last runs in
+    (tied.ghost.history, tied.ties.serial, λ c. let r = open_serial last tied c in (parts_in (tied.ghost.entries c), r.0, r.1))
