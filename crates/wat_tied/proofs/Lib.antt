@@ -4,6 +4,7 @@ pub mod Altered
 pub mod Answered
 pub mod AtThree
 pub mod Backs
+pub mod Bases
 pub mod Beginning
 pub mod Begun
 pub mod Changed

@@ -1,5 +1,5 @@
 -- Every step leaves the core tied, and so does every list of steps.
-use Rattle.std.proofs.Common.{◌≡◌, ℕ, nat_le, true, List, [], ◌∷◌, Option, Some, None, refl, subst, inl, inr}
+use Rattle.std.proofs.Common.{◌≡◌, ℕ, nat_le, true, List, [], ◌∷◌, Option, Some, None, refl, sym, ap, ◌∙◌, subst, inl, inr}
 use Rattle.wat_value.specs.declared.change.Change.{Change}
 use Rattle.wat_schema.specs.Tables.{Tables, IsTables}
 use Rattle.wat_parse.specs.declared.script.Span.{Span}
@@ -11,6 +11,7 @@ use Rattle.wat_steps.specs.Step.{Goes, GoesOrStops, IsStep}
 use Rattle.wat_tied.specs.Ready.{IsReadyFor, IsReady, RunsReady, IsAtThree, RunsAtThree}
 use Rattle.wat_tied.specs.Tied.{IsTied}
 use Rattle.wat_tied.proofs.AtThree.{ready_at_three}
+use Rattle.wat_tied.proofs.Bases.{step_base}
 use Rattle.wat_tied.proofs.Beginning.{begins}
 use Rattle.wat_tied.proofs.Granted.{working}
 use Rattle.wat_tied.proofs.Goes.{works_tied}
@@ -58,3 +59,11 @@ runs_at_three e tied (c ∷ cs) last runs = runs_at_three runs.2 (steps_at_three
 
 pub sessions_at_three : (base : Tables) (scripts : List (List ℕ)) → IsTables base → (cs : List ℕ) (last : CoreState) → RunsAtThree (fresh base scripts) cs last → IsTied last
 sessions_at_three base scripts tables cs last runs = runs_at_three (fresh base scripts) (begins base scripts tables) cs last runs
+
+base_at_three : (e : CoreState) (cs : List ℕ) (last : CoreState) → RunsAtThree e cs last → last.base ≡ e.base
+base_at_three e [] last runs = ap (λ (z : CoreState). z.base) (sym runs)
+base_at_three e (c ∷ cs) last runs = base_at_three runs.2 cs last runs.4 ∙ step_base e runs.2 c runs.1 runs.3
+
+pub session_base : (base : Tables) (scripts : List (List ℕ)) (cs : List ℕ) (last : CoreState) → RunsAtThree (fresh base scripts) cs last → last.base ≡ base
+unfolding fresh
+session_base base scripts cs last runs = base_at_three (fresh base scripts) cs last runs

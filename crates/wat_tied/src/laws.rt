@@ -126,7 +126,7 @@ pub fn steps_keep_tied()
     // Where all changes come at level 3 nothing else is asked.
     ensures at_three { (base : Tables) (scripts : List (List ℕ)) → IsTables base → (steps : List ℕ) (last : CoreState) → RunsAtThree (fresh base scripts) steps last → IsTied last }
     ensures serial { (base : Tables) (scripts : List (List ℕ)) → IsTables base → (steps : List ℕ) (last : CoreState) → RunsAtThree (fresh base scripts) steps last
-        → (history : List Commit) × Serial 3 last.base history last.committed × ((c : ℕ) → (parts : List Part) × (after : Tables) × Follows 3 last.committed parts after) }
+        → (history : List Commit) × Serial 3 base history last.committed × ((c : ℕ) → (parts : List Part) × (after : Tables) × Follows 3 last.committed parts after) }
 {}
 
 /// At level 3 the next change of a statement is ready: its rows fit, and a row that it updates or deletes is now as it was met, whatever the other
