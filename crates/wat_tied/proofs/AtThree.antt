@@ -1,5 +1,5 @@
 -- At level 3 the next change of a statement is ready: it is formed, and its row is now as it finds it.
-use Rattle.std.proofs.Common.{◌≡◌, ℕ, nat_le, true, false, ◌&&◌, List, ◌∷◌, ◌++◌, ◌⊎◌, Option, Some, None, refl, sym, ap, ◌∙◌, subst, ⊎_elim}
+use Rattle.std.proofs.Common.{◌≡◌, ℕ, nat_le, true, false, ◌&&◌, List, ◌∷◌, ◌++◌, Option, Some, None, refl, sym, ap, ◌∙◌, subst, ⊎_elim}
 use Rattle.std.specs.List.{list_all}
 use Rattle.std.specs.Option.{option_map, option_map_or}
 use Rattle.std.proofs.lemmas.Bool.{and_parts, and_from}

@@ -1,5 +1,5 @@
 -- The spots of a change in the core are those that the locking protocol speaks of.
-use Rattle.std.proofs.Common.{◌≡◌, ℕ, Bool, true, false, ◌||◌, is_some, List, [], ◌∷◌, length, ◌⊎◌, Some, refl, sym, ap, ◌∙◌, subst, inl, inr, ⊎_elim}
+use Rattle.std.proofs.Common.{◌≡◌, ℕ, Bool, true, false, ◌||◌, is_some, List, [], ◌∷◌, length, Some, refl, sym, ap, ◌∙◌, subst, inl, inr, ⊎_elim}
 use Rattle.std.proofs.lemmas.Bool.{both_ways}
 use Rattle.wat_list.specs.Has.{Has}
 use Rattle.wat_value.specs.declared.bound.Bound.TheVariants.{Excluding}
