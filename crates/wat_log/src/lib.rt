@@ -8,4 +8,5 @@ mod reading;
 mod record_log;
 
 pub use laws::log_laws;
+pub use reading::read_records;
 pub use record_log::{LOG, Log};

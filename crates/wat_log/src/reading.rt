@@ -38,11 +38,7 @@ fn push_records(alloc: Global, body: &[u8], into: &mut LogRecords) -> Result<boo
 }
 
 /// Adds the records that the body spells; `false` exactly where it spells none. Else than after `Ok(true)` `into` is as before.
-pub(crate) fn read_records(
-    alloc: Global,
-    body: &[u8],
-    into: &mut LogRecords,
-) -> Result<bool, NoMemory>
+pub fn read_records(alloc: Global, body: &[u8], into: &mut LogRecords) -> Result<bool, NoMemory>
     ensures read { IfOk result (λ read. OnTrue read (AddsRecords body.now into.old into.new)) }
     ensures none { IfOk result (λ read. OnFalse read (SpellsNone body.now)) }
     ensures kept { result ≢ Ok true → into.new ≡ into.old }

@@ -1,0 +1,5 @@
+pub mod Files
+pub mod Frames
+pub mod Lists
+pub mod Telling
+pub mod Texts
