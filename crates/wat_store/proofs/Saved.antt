@@ -14,18 +14,7 @@ use Rattle.wat_held.specs.Held.{HoldsState, IsHeadOf, HasPagesOf}
 use Rattle.wat_held.proofs.Holding.{saves, two_pages}
 use Rattle.wat_keeping.specs.Durable.{Saves}
 use Rattle.wat_keeping.specs.Steps.{SavesAll}
-use Rattle.wat_store.specs.Saving.{CountsLog}
-
--- The numbers of a header fit their fields.
-pub record Fits (h : Head) : Type 0 where
-  pub limit : h.limit < 2 ^ 32
-  pub count : h.count < 2 ^ 32
-  pub frames : h.frames < 2 ^ 64
-  pub place : h.place < 2 ^ 64
-  pub catalog : h.catalog < 2 ^ 32
-  pub rollback : h.rollback < 2 ^ 32
-  pub free : h.free < 2 ^ 32
-  pub next_table : h.next_table < 2 ^ 32
+use Rattle.wat_store.specs.Saving.{CountsLog, Fits}
 
 module _ (told : Told) (pages : Pages) (header : Header) (owners : Owners) (free : List ℕ) (s : State) (fit : Fits (next_head pages header))
     (holds : HoldsState (book_of told pages) owners free (next_head pages header) s) where

@@ -1,5 +1,5 @@
 ghost use Rattle.std.specs.Prelude.{◌≡◌, ◌<◌, ◌≤◌, ◌^◌, ◌++◌, [], ℕ, List, Some, IsErr, OnOk};
-ghost use Rattle.wat_disk.specs.Disk.{EachStop};
+ghost use Rattle.wat_disk.specs.Disk.{EachStop, SameOthers};
 ghost use Rattle.wat_faults.specs.Faults.{HasCause};
 ghost use Rattle.wat_book.specs.Book.{Owners};
 ghost use Rattle.wat_pages.specs.Pages.{book_of, limit_of, stored_of, next_head, IsPagesOf};
@@ -25,6 +25,7 @@ pub fn flush_noted<D: Disk>(disk: &mut D, pages: &Pages, log: &mut Log) -> Resul
     ensures known { D.tells_content → OnOk result (IsOpenLog (D.told disk.new) log.new) }
     ensures noted { OnOk result (HasNoted log.new []) }
     ensures pages { D.tells_content → IsPagesOf (D.told disk.old) pages.now → IsPagesOf (D.told disk.new) pages.now }
+    ensures others { SameOthers 2 (D.told disk.old).content (D.told disk.new).content }
 
     // A stop at any moment leaves a database of the committed tables from before, or of those with what the records commit.
     ensures stops { D.tells_content → (limit : ℕ) (noted more : List LogRecord) (s next : State) (t after : Tables)
@@ -55,6 +56,7 @@ pub fn commit_noted<D: Disk>(
     ensures known { D.tells_content → OnOk result (IsOpenLog (D.told disk.new) log.new) }
     ensures noted { OnOk result (HasNoted log.new []) }
     ensures pages { D.tells_content → IsPagesOf (D.told disk.old) pages.now → IsPagesOf (D.told disk.new) pages.now }
+    ensures others { SameOthers 2 (D.told disk.old).content (D.told disk.new).content }
 
     // A stop at any moment leaves a database of the committed tables from before, or of those with the connection's changes.
     ensures stops { D.tells_content → (limit : ℕ) (noted : List LogRecord) (s next : State) (t after : Tables)
@@ -108,7 +110,7 @@ pub fn save<D: Disk>(disk: &mut D, pages: &mut Pages, header: &Header) -> Result
 }
 
 // Numbers fit their types.
-fn fit(
+pub(crate) fn fit(
     limit: u32,
     count: u32,
     free: u32,

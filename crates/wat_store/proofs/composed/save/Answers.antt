@@ -2,7 +2,8 @@ use Rattle.std.proofs.Common.{◌≡◌, ◌<◌, ◌^◌, ℕ, [], subst, sym}
 use Rattle.wat_pages.specs.Pages.{stored_of, limit_of, next_head, next_checkpoint}
 use Rattle.wat_keeping.specs.Kept.{IsKept}
 use Rattle.wat_keeping.proofs.Calls.{checkpoint_stopped, checkpoint_stays}
-use Rattle.wat_store.proofs.Saved.{saves_all, Fits}
+use Rattle.wat_store.specs.Saving.{Fits}
+use Rattle.wat_store.proofs.Saved.{saves_all}
 use Rattle.wat_store.proofs.composed.save.Goals as goal
 
 pub returns-in_err-checkpoint-clause-stops : goal.returns-in_err-checkpoint-clause-stops
