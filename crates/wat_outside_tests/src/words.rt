@@ -6,6 +6,7 @@ use wat_words::{Command, read_words, script_names};
 fn words_are_a_command_or_none(rt: HostRuntime) -> Result<(), Fail> {
     let rows = [
         ("init", Some(Command::Init)),
+        ("translate", Some(Command::Translate)),
         ("run a.sql", Some(Command::Run)),
         ("run ", Some(Command::Run)),
         ("run help", Some(Command::Run)),

@@ -12,7 +12,7 @@ use Rattle.wat_commit_log.specs.declared.opening.OpenWhy.{OpenWhy}
 use Rattle.wat_commit_log.specs.declared.opening.OpenWhy.TheVariants as why
 use Rattle.wat_words.specs.Commands.{alone, command_of, names_of, run_of}
 use Rattle.wat_words.specs.declared.Command.{Command}
-use Rattle.wat_words.specs.declared.Command.TheVariants.{Init, Run}
+use Rattle.wat_words.specs.declared.Command.TheVariants.{Init, Run, Translate}
 use Rattle.wat_begin.specs.Faults.{◌>>=◌}
 use Rattle.wat_begin.specs.Readings.{Reading, Holds, Missing, Failing, AreReadings, script_of, scripts_of, script_limit}
 use Rattle.wat_begin.specs.declared.fault.Fault.{Fault}
@@ -21,15 +21,21 @@ use Rattle.wat_tool.specs.Called.{opened}
 use Rattle.wat_tool.specs.Ending.{IsBeforeDisk}
 use Rattle.wat_session.specs.Session.{IsOneScript}
 
-is_run : (dashed init run : Bool) (x y : Option Command) → (if dashed then None else if init then x else if run then y else None) ≡ Some Run → (x ≡ Some Run → ⊥) → y ≡ Some Run
-is_run true init run x y is other = cc
-is_run false true run x y is other = absurd (other is)
-is_run false false true x y is other = is
-is_run false false false x y is other = cc
+is_run : (dashed init run translate : Bool) (x y z : Option Command) → (if dashed then None else if init then x else if run then y else if translate then z else None) ≡ Some Run
+    → (x ≡ Some Run → ⊥) → (z ≡ Some Run → ⊥) → y ≡ Some Run
+is_run true init run translate x y z is other last = cc
+is_run false true run translate x y z is other last = absurd (other is)
+is_run false false true translate x y z is other last = is
+is_run false false false true x y z is other last = absurd (last is)
+is_run false false false false x y z is other last = cc
 
 no_init : (rest : List (List ℕ)) → alone Init rest ≡ Some Run → ⊥
 no_init [] is = cc
 no_init (word ∷ rest) is = cc
+
+no_translate : (rest : List (List ℕ)) → alone Translate rest ≡ Some Run → ⊥
+no_translate [] is = cc
+no_translate (word ∷ rest) is = cc
 
 one_word : (rest : List (List ℕ)) → run_of rest ≡ Some Run → (name : List ℕ) × (rest ≡ name ∷ [])
 one_word [] is = cc
@@ -39,7 +45,7 @@ one_word (name ∷ other ∷ rest) is = cc
 -- run names one script
 pub one_name : (words : List (List ℕ)) → command_of words ≡ Some Run → (name : List ℕ) × (names_of Run words ≡ name ∷ [])
 one_name [] is = cc
-one_name (word ∷ rest) is = one_word rest (is_run _ _ _ (alone Init rest) (run_of rest) is (no_init rest))
+one_name (word ∷ rest) is = one_word rest (is_run _ _ _ _ (alone Init rest) (run_of rest) (alone Translate rest) is (no_init rest) (no_translate rest))
 
 text_or : (answer : Result (List ℕ) Fault) (texts : List (List ℕ)) → (answer >>= λ text. Ok (text ∷ [])) ≡ Ok texts → (text : List ℕ) × (answer ≡ Ok text) × (texts ≡ text ∷ [])
 text_or (Ok text) texts is = (text, refl, cc)

@@ -12,8 +12,11 @@ use Rattle.wat_begin.specs.declared.fault.Fault.{Fault}
 use Rattle.wat_begin.specs.declared.fault.Fault.TheVariants.{Usage, CannotRead, TooLong, NotText, NoDatabase, Exists, Damaged, DiskFault, Memory}
 use Rattle.wat_tool.specs.Called.{opened}
 use Rattle.wat_tool.specs.declared.performing.Done.{Done}
-use Rattle.wat_tool.specs.declared.performing.Done.TheVariants.{Made, Played}
-use Rattle.wat_tool.specs.Ending.{Outside, EndsOpened, EndsPlayed, EndsRead, EndsRun, AsksFirst, outcome_of}
+use Rattle.wat_tool.specs.declared.performing.Done.TheVariants.{Made, Played, Translated}
+use Rattle.wat_words.specs.Commands.{command_of}
+use Rattle.wat_words.specs.declared.Command.{Command}
+use Rattle.wat_words.specs.declared.Command.TheVariants.{Translate}
+use Rattle.wat_tool.specs.Ending.{Outside, Ends, EndsBy, EndsOpened, EndsPlayed, EndsRead, EndsRun, EndsTranslate, AsksFirst, IsBeforeDisk, IsUntouched, LeavesUntouched, outcome_of}
 
 -- What follows stands, unless memory was wanted.
 pub or_memory : (fault : Fault) (P : Type 0) → P → UnlessMemory {A = Done} (Err fault) P
@@ -26,6 +29,21 @@ or_memory Exists P h = h
 or_memory (Damaged at) P h = h
 or_memory DiskFault P h = h
 or_memory Memory P h = tt
+
+-- So too where there is no fault.
+pub or_no_fault : (ended : Result Done Fault) (P : Type 0) → P → UnlessMemory ended P
+or_no_fault (Ok done) P h = h
+or_no_fault (Err fault) P h = or_memory fault P h
+
+-- `translate` ends as reading the log back does.
+pub translate_ends : (outside : Outside) (words : List (List ℕ)) (ended : Result Done Fault) → command_of words ≡ Some Translate → EndsTranslate outside ended → Ends outside words ended
+translate_ends outside words ended command ends = or_no_fault ended (EndsBy outside words (command_of words) ended)
+    (subst (λ (c : Option Command). EndsBy outside words c ended) (sym command) ends)
+
+-- A fault that was met behind the first call on the disk leaves all as it was.
+pub leaves_all : (words : List (List ℕ)) (before now : Told) (ended : Result Done Fault) → IsUntouched before now → IfErr ended (λ met. IsBeforeDisk met → ⊥) → IfErr ended (LeavesUntouched words before now)
+leaves_all words before now (Ok done) untouched late = tt
+leaves_all words before now (Err fault) untouched late = record { untouched = λ other. untouched; uncalled = λ early. absurd (late early) }
 
 -- want of memory is free
 pub memory_ends : (fault : Fault) (P : Type 0) → fault ≡ Memory → UnlessMemory {A = Done} (Err fault) P
@@ -90,3 +108,4 @@ pub outcome_fault : (ended : Result Done Fault) (P : Fault → Type 0) → IfErr
 outcome_fault (Err fault) P h = h
 outcome_fault (Ok Made) P h = tt
 outcome_fault (Ok (Played session)) P h = tt
+outcome_fault (Ok (Translated text)) P h = tt

@@ -1,3 +1,4 @@
+pub mod BackLemmas
 pub mod SinkLemmas
 pub mod SessionLemmas
 pub mod CalledLemmas

@@ -16,7 +16,7 @@ use Rattle.std.specs.Prelude.{⊤}
 use Rattle.wat_one_history.proofs.OneHistory.{one_history}
 use Rattle.wat_words.specs.Commands.{command_of}
 use Rattle.wat_words.specs.declared.Command.{Command}
-use Rattle.wat_words.specs.declared.Command.TheVariants.{Init, Run}
+use Rattle.wat_words.specs.declared.Command.TheVariants.{Init, Run, Translate}
 use Rattle.wat_begin.specs.Readings.{scripts_of}
 use Rattle.wat_begin.specs.declared.fault.Fault.{Fault}
 use Rattle.wat_tool.specs.Called.{made, opened}
@@ -116,11 +116,12 @@ by_has : (outside : Outside) (words : List (List ℕ)) (session : Session) (comm
 by_has outside words session None ends = no_fault session Usage _ ends
 by_has outside words session (Some Init) ends = made_has outside session (made ends.making) ends.is
 by_has outside words session (Some Run) ends = read_has outside session (scripts_of 1 ends.readings) ends.is
+by_has outside words session (Some Translate) ends = absurd ends
 
 -- A session that was played has one history.
 pub ends_has : (outside : Outside) (words : List (List ℕ)) (session : Session) → Ends outside words (Ok (Played session)) → HasOneHistory outside session
 ends_has outside words session ends = by_has outside words session (command_of words) ends
 
 -- where the outcome is that of `run`
-pub outcome_has : (outside : Outside) (words : List (List ℕ)) (outcome : Result Command Fault) (session : Session) → Ends outside words (ended outcome session) → outcome ≡ Ok Run → HasOneHistory outside session
-outcome_has outside words outcome session ends is = ends_has outside words session (subst (λ (o : Result Command Fault). Ends outside words (ended o session)) is ends)
+pub outcome_has : (outside : Outside) (words : List (List ℕ)) (outcome : Result Command Fault) (session : Session) (text : List ℕ) → Ends outside words (ended outcome session text) → outcome ≡ Ok Run → HasOneHistory outside session
+outcome_has outside words outcome session text ends is = ends_has outside words session (subst (λ (o : Result Command Fault). Ends outside words (ended o session text)) is ends)

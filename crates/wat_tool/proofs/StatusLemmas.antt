@@ -18,7 +18,7 @@ use Rattle.wat_conn.specs.declared.answer.Reason.{Reason}
 use Rattle.wat_conn.specs.declared.answer.Reason.TheVariants as reason
 use Rattle.wat_words.specs.Commands.{command_of, names_of}
 use Rattle.wat_words.specs.declared.Command.{Command}
-use Rattle.wat_words.specs.declared.Command.TheVariants.{Init, Run}
+use Rattle.wat_words.specs.declared.Command.TheVariants.{Init, Run, Translate}
 use Rattle.wat_begin.specs.Faults.{UnlessMemory}
 use Rattle.wat_begin.specs.Readings.{Reading, Holds, Missing, Failing, AreReadings, names_asked, script_of, scripts_of, script_limit}
 use Rattle.wat_begin.specs.declared.fault.Fault.{Fault}
@@ -27,9 +27,11 @@ use Rattle.wat_begin.proofs.ReadingLemmas.{is_text}
 use Rattle.wat_session.specs.Saving.{MayStop}
 use Rattle.wat_tool.specs.Called.{made, opened, names_called}
 use Rattle.wat_tool.specs.declared.performing.Done.{Done}
-use Rattle.wat_tool.specs.declared.performing.Done.TheVariants.{Made, Played}
-use Rattle.wat_tool.specs.Ending.{Outside, Ends, EndsBy, EndsMade, EndsOpened, EndsPlayed, EndsRead, EndsRun, HasText, IsWell, MetDiskFault, Serves}
+use Rattle.wat_tool.specs.declared.performing.Done.TheVariants.{Made, Played, Translated}
+use Rattle.wat_tool.specs.Ending.{Outside, Ends, EndsBy, EndsMade, EndsOpened, EndsPlayed, EndsRead, EndsRun, EndsTranslate, HasText, IsWell, MetDiskFault, Serves}
 use Rattle.wat_tool.specs.Reporting.{Output, Reports, status_of, session_status, fault_status}
+use Rattle.wat_translate.specs.Reading.{IsReadBack}
+use Rattle.wat_tool.proofs.BackLemmas.{never_fails}
 use Rattle.wat_tool.proofs.CalledLemmas.{no_usage_scripts}
 use Rattle.wat_tool.proofs.EndingLemmas.{unless_memory}
 
@@ -74,10 +76,12 @@ usage_by : (outside : Outside) (words : List (List ℕ)) (command : Option Comma
 usage_by outside words None is = refl
 usage_by outside words (Some Init) is = absurd (no_usage_made outside is.making is.is)
 usage_by outside words (Some Run) is = absurd (no_usage_read outside is.readings (scripts_of 1 is.readings) refl is.is)
+usage_by outside words (Some Translate) is = absurd is
 
 usage_ends : (outside : Outside) (words : List (List ℕ)) (ended : Result Done Fault) (found whole : Bool) → Ends outside words ended → status_of ended found whole ≡ 1 → command_of words ≡ None
 usage_ends outside words (Ok Made) found whole ends is = absurd (omega (arith, is))
 usage_ends outside words (Ok (Played session)) found whole ends is = absurd (no_usage_session session.stop found whole is)
+usage_ends outside words (Ok (Translated text)) found whole ends is = absurd (no_usage_session None true whole is)
 usage_ends outside words (Err fault) found whole ends is =
     let usage = usage_status fault is in
     let ends_so : Ends outside words (Err Usage) = subst (λ (f : Fault). Ends outside words (Err f)) usage ends in
@@ -96,6 +100,7 @@ status_1_or_7 output ended status reports either =
 met_status : (ended : Result Done Fault) (found whole : Bool) → MetDiskFault ended → status_of ended found whole ≡ 4
 met_status (Err fault) found whole met = ap fault_status met
 met_status (Ok Made) found whole met = absurd met
+met_status (Ok (Translated text)) found whole met = absurd met
 met_status (Ok (Played session)) found whole met = ap (λ (stop : Option Reason). session_status stop found whole) met
 
 -- A fault of the disk ends with status 4.
@@ -184,7 +189,28 @@ played_well : (outside : Outside) (texts : List (List ℕ)) (tables : Tables) (e
 unfolding EndsWell
 played_well outside texts tables (Ok Made) found whole calm sink ends = absurd ends
 played_well outside texts tables (Ok (Played session)) found whole calm sink ends = calm_status session.stop found whole ends.is.leaves.reason (λ stop. calm (ends.is.leaves.disk_fault stop)) sink
+played_well outside texts tables (Ok (Translated text)) found whole calm sink ends = absurd ends
 played_well outside texts tables (Err fault) found whole calm sink ends = absurd ends
+
+whole_text : (whole : Bool) → (whole ≡ false → ⊥) → (session_status None true whole ≡ 0) ⊎ (session_status None true whole ≡ 7)
+whole_text false sink = absurd (sink refl)
+whole_text true sink = inl refl
+
+translated_well : (outside : Outside) (text : List ℕ) (ended : Result Done Fault) (found whole : Bool) → outside.tells → IsReadBack (outside.disk_before.content log_file) text →
+    ¬ Rose outside.disk_before.faults outside.disk.faults → (whole ≡ false → ⊥) → EndsTranslate outside ended → EndsWell ended found whole
+unfolding EndsWell
+translated_well outside text (Ok Made) found whole told back calm sink ends = absurd ends
+translated_well outside text (Ok (Played session)) found whole told back calm sink ends = absurd ends
+translated_well outside text (Ok (Translated held)) found whole told back calm sink ends = whole_text whole sink
+translated_well outside text (Err Usage) found whole told back calm sink ends = absurd ends
+translated_well outside text (Err (CannotRead i)) found whole told back calm sink ends = absurd ends
+translated_well outside text (Err (TooLong i)) found whole told back calm sink ends = absurd ends
+translated_well outside text (Err (NotText i at)) found whole told back calm sink ends = absurd ends
+translated_well outside text (Err NoDatabase) found whole told back calm sink ends = absurd (omega (arith, back.whole.there, ap length (ends told 2 (omega arith))))
+translated_well outside text (Err Exists) found whole told back calm sink ends = absurd ends
+translated_well outside text (Err (Damaged at)) found whole told back calm sink ends = absurd (never_fails (outside.disk_before.content log_file) text at back (ends told).fails)
+translated_well outside text (Err DiskFault) found whole told back calm sink ends = absurd (calm ends)
+translated_well outside text (Err Memory) found whole told back calm sink ends = inr refl
 
 opened_well : (outside : Outside) (texts : List (List ℕ)) (opening : Result Tables OpenWhy) (ended : Result Done Fault) (found whole : Bool) (tables : Tables) → outside.tells →
     Restarts (outside.disk_before.content log_file) tables → ¬ Rose outside.disk_before.faults outside.disk.faults → (whole ≡ false → ⊥) →
@@ -204,6 +230,7 @@ by_well : (outside : Outside) (words : List (List ℕ)) (command : Command) (end
     Serves command (outside.disk_before.content log_file) → ¬ Rose outside.script_faults_before outside.script_faults → ¬ Rose outside.disk_before.faults outside.disk.faults → (whole ≡ false → ⊥) →
     EndsBy outside words (Some command) ended → EndsWell ended found whole
 by_well outside words Init ended found whole texts told have tells log script_faults calm sink ends = init_well outside ends.making ended found whole tells log calm ends.may_make ends.is
+by_well outside words Translate ended found whole texts told have tells log script_faults calm sink ends = translated_well outside log.0 ended found whole tells log.1 calm sink ends
 by_well outside words Run ended found whole texts told have tells log script_faults calm sink ends =
     let names = names_asked (names_of Run words) (scripts_of 1 ends.readings) in
     let are = subst (λ (t : Option Texts). AreReadings t outside.script_faults_before outside.script_faults names ends.readings) told ends.may_read in

@@ -1,5 +1,6 @@
 pub mod Called
 pub mod Ending
 pub mod Finishes
+pub mod ReadingBack
 pub mod Reporting
 pub mod Steps

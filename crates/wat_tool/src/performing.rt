@@ -13,6 +13,7 @@ ghost use Rattle.wat_tool.specs.Called.{made, names_called, opened};
 ghost use Rattle.wat_tool.specs.Ending.{AsksFirst, ChangesFirstByte, Ends, EndsRun, IsBeforeDisk, IsMade, IsUntouched, LeavesUntouched, MetDiskFault};
 ghost use Rattle.wat_session.specs.Session.{IsOneScript, IsSession};
 ghost use Rattle.wat_tool.specs.Steps.{tables_of};
+ghost use Rattle.wat_tool.specs.ReadingBack.{MayReadBack};
 
 use std::alloc::Global;
 use wat_begin::{Fault, read_scripts};
@@ -20,7 +21,9 @@ use wat_commit_log::{InitRefusal, OpenWhy, Opened, init, open};
 use wat_conn::{ScriptList, Session};
 use wat_disk::Disk;
 use wat_io::Scripts;
+use wat_list::Items;
 use wat_session::play;
+use wat_translate::{LogRefusal, translate};
 use wat_words::{Command, read_words, script_names};
 
 /// What a command that was done leaves.
@@ -30,6 +33,8 @@ pub enum Done {
     Made,
     /// A session was played.
     Played(Session),
+    /// The log was read back as this text.
+    Translated(Items<u8>),
 }
 
 /// Makes a database.
@@ -138,6 +143,22 @@ fn run_script<L: Scripts, D: Disk>(
     }
 }
 
+/// Reads the log back as SQL.
+fn translate_log<D: Disk>(alloc: Global, disk: &mut D) -> Result<Done, Fault>
+    ensures ends { MayReadBack D.tells_content (D.told disk.old).content (Rose (D.told disk.old).faults (D.told disk.new).faults) result }
+    ensures untouched { IsUntouched (D.told disk.old) (D.told disk.new) }
+    ensures on_disk { IfErr result (λ met. IsBeforeDisk met → ⊥) }
+    ensures disk_faults { ¬ MetDiskFault result → (D.told disk.new).faults ≡ (D.told disk.old).faults }
+{
+    match translate(alloc, disk) {
+        Ok(text) => Ok(Done::Translated(Items::from_vec(text))),
+        Err(LogRefusal::NoDatabase) => Err(Fault::NoDatabase),
+        Err(LogRefusal::Damaged { file: _, at }) => Err(Fault::Damaged { at }),
+        Err(LogRefusal::DiskFault) => Err(Fault::DiskFault),
+        Err(LogRefusal::Memory) => Err(Fault::Memory),
+    }
+}
+
 /// Does what the words call for.
 pub fn perform<L: Scripts, D: Disk>(
     alloc: Global,
@@ -168,6 +189,7 @@ pub fn perform<L: Scripts, D: Disk>(
             Err(fault) => Err(fault),
         },
         Ok(Some(Command::Run)) => run_script(alloc, words, scripts, disk),
+        Ok(Some(Command::Translate)) => translate_log(alloc, disk),
         Ok(None) => Err(Fault::Usage),
         Err(_) => Err(Fault::Memory),
     }

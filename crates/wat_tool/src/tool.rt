@@ -1,4 +1,4 @@
-ghost use Rattle.std.specs.Prelude.{◌≡◌, ◌≢◌, Ok, map, string_bytes};
+ghost use Rattle.std.specs.Prelude.{◌≡◌, ◌≢◌, [], Ok, map, string_bytes};
 ghost use Rattle.wat_tool.specs.Ending.{IsNoSession, ended, outcome_of};
 ghost use Rattle.wat_tool.specs.Finishes.{Finishes};
 
@@ -11,6 +11,8 @@ use wat_begin::Fault;
 use wat_conn::Session;
 use wat_disk::Disk;
 use wat_io::{Gate, Scripts, Sink};
+use wat_list::Items;
+use wat_translated::translated_law;
 use wat_words::Command;
 
 /// What a call of the program leaves.
@@ -23,26 +25,32 @@ pub struct Finish<D> {
     pub disk: D,
     /// The session of `run`; one in which nothing was asked where none began.
     pub session: Session,
+    /// The text of `translate`; empty where no log was read back.
+    pub text: Items<u8>,
 }
 
 /// What a call leaves that ended so.
 fn finished<D>(alloc: Global, end: Result<Done, Fault>, status: u8, disk: D) -> Finish<D>
     ensures status { result.status ≡ status }
     ensures disk { result.disk ≡ disk }
-    ensures ended { ended result.outcome result.session ≡ end }
+    ensures ended { ended result.outcome result.session result.text ≡ end }
     ensures nothing_asked { result.outcome ≢ Ok Command.Run → IsNoSession result.session }
+    ensures nothing_read_back { result.outcome ≢ Ok Command.Translate → result.text ≡ [] }
     ensures outcome { result.outcome ≡ outcome_of end }
 {
-    let (outcome, session) = match end {
-        Ok(Done::Made) => (Ok(Command::Init), Session::new(alloc)),
-        Ok(Done::Played(session)) => (Ok(Command::Run), session),
-        Err(fault) => (Err(fault), Session::new(alloc)),
+    let none = Items::new(alloc);
+    let (outcome, session, text) = match end {
+        Ok(Done::Made) => (Ok(Command::Init), Session::new(alloc), none),
+        Ok(Done::Played(session)) => (Ok(Command::Run), session, none),
+        Ok(Done::Translated(text)) => (Ok(Command::Translate), Session::new(alloc), text),
+        Err(fault) => (Err(fault), Session::new(alloc), none),
     };
     Finish {
         status,
         outcome,
         disk,
         session,
+        text,
     }
 }
 
@@ -68,8 +76,9 @@ pub fn run_tool<L: Scripts, D: Disk, K: Sink>(
       taken = K.taken out.new;
       faults_before = K.faults out.old;
       faults = K.faults out.new;
-    }) (map string_bytes words.now) result.status result.outcome result.session }
+    }) (map string_bytes words.now) result.status result.outcome result.session result.text }
 {
+    translated_law();
     let mut disk = disk;
     let ended = perform(alloc, words, scripts, &mut disk);
     let status = report(alloc, &ended, out);
@@ -101,7 +110,7 @@ pub fn run<R: Threads + Wait + Sync, L: Scripts, D: Disk + Send, G: Gate + Sync,
       taken = K.taken out.new;
       faults_before = K.faults out.old;
       faults = K.faults out.new;
-    }) (map string_bytes words.now) result.status result.outcome result.session }
+    }) (map string_bytes words.now) result.status result.outcome result.session result.text }
 {
     run_tool(alloc, words, scripts, disk, out)
 }

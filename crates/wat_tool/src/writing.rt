@@ -140,6 +140,10 @@ pub fn report<K: Sink>(alloc: Global, ended: &Result<Done, Fault>, out: &mut K) 
             fault_status(*fault)
         }
         Ok(Done::Made) => 0,
+        Ok(Done::Translated(text)) => {
+            let whole = write_all(out, text.as_slice()).is_ok();
+            session_status(None, true, whole)
+        }
         Ok(Done::Played(session)) => {
             let mut text = Vec::new(alloc);
             match printed(session, &mut text) {

@@ -6,7 +6,7 @@ use Rattle.clap.specs.Simple.{Shape, built_leaf, inherited}
 use Rattle.clap.specs.Kinds.{Kinds}
 use Rattle.clap.specs.Faults.{defaults_fault}
 use Rattle.wat_words.specs.declared.Command.{Command}
-use Rattle.wat_words.specs.declared.Command.TheVariants.{Init}
+use Rattle.wat_words.specs.declared.Command.TheVariants.{Init, Translate}
 use Rattle.wat_words.specs.Commands.{alone, run_of}
 use Rattle.wat_words.specs.Line.{command_named, leaf, run_rules}
 use Rattle.wat_words.proofs.PlainWalk.{plain_level}
@@ -28,6 +28,11 @@ pub init_law : (rest : List Text) → LeafReads (codes "init") [] rest (alone In
 unfolding defaults_fault
 init_law [] = refl
 init_law (a ∷ rest) = refl
+
+pub translate_law : (rest : List Text) → LeafReads (codes "translate") [] rest (alone Translate rest)
+unfolding defaults_fault
+translate_law [] = refl
+translate_law (a ∷ rest) = refl
 
 pub run_law : (rest : List Text) → LeafReads (codes "run") run_rules rest (run_of rest)
 unfolding defaults_fault

@@ -13,7 +13,7 @@ use Rattle.wat_words.specs.Commands.{command_of, is_dashed, is_for_clap, plain_o
 use Rattle.wat_words.specs.Line.{command_line, command_named, found_command, run_rules}
 use Rattle.wat_words.proofs.TopLaw.{enters, enters_with, refuses, refuses_none}
 use Rattle.wat_words.proofs.PlainWalk.{either_false, level_is}
-use Rattle.wat_words.proofs.LeafLaws.{LeafReads, Reads, init_law, ready, run_law}
+use Rattle.wat_words.proofs.LeafLaws.{LeafReads, Reads, init_law, ready, run_law, translate_law}
 
 abbrev subs : List Shape
 subs = (built command_line).subs
@@ -59,19 +59,21 @@ choose P t name hit miss = go (bytes_eq name t) refl
 record IsOther (name : Text) : Type 0 where
   init : bytes_eq name (codes "init") ≡ false
   run : bytes_eq name (codes "run") ≡ false
+  translate : bytes_eq name (codes "translate") ≡ false
 
-by_name : (P : Text → Type 0) → P (codes "init") → P (codes "run") → ((name : Text) → IsOther name → P name) → (name : Text) → P name
-by_name P init run other name =
-    choose P (codes "init") name init (λ e0. choose P (codes "run") name run (λ e1. other name (record {
+by_name : (P : Text → Type 0) → P (codes "init") → P (codes "run") → P (codes "translate") → ((name : Text) → IsOther name → P name) → (name : Text) → P name
+by_name P init run translate other name =
+    choose P (codes "init") name init (λ e0. choose P (codes "run") name run (λ e1. choose P (codes "translate") name translate (λ e2. other name (record {
       init = e0;
       run = e1;
-    })))
+      translate = e2;
+    }))))
 
 no_such_command : (name : Text) (rest : List Text) → IsOther name → plain_of name rest ≡ None
-no_such_command name rest o = rw (o.init, o.run) refl
+no_such_command name rest o = rw (o.init, o.run, o.translate) refl
 
 not_found : (name : Text) → IsOther name → find (answers_to name) (map label_of subs) ≡ None
-not_found name o = rw (flip _ _ o.init, flip _ _ o.run) refl
+not_found name o = rw (flip _ _ o.init, flip _ _ o.run, flip _ _ o.translate) refl
 
 -- ---- the words that clap is given
 
@@ -110,6 +112,7 @@ words_law (name ∷ rest) readable =
     (by_name AtName
     (named (codes "init") [] refl refl refl refl init_law)
     (named (codes "run") run_rules refl refl refl refl run_law)
+    (named (codes "translate") [] refl refl refl refl translate_law)
     other_read name rest plain)
 
 -- ---- words that clap is not given are no command

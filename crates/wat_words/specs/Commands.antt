@@ -3,7 +3,7 @@ use Rattle.std.specs.Prelude.{ℕ, Bool, true, false, not, ◌&&◌, ◌==◌, L
 use Rattle.std.specs.List.{list_any}
 use Rattle.std.specs.Str.{bytes_eq}
 use Rattle.wat_words.specs.declared.Command.{Command}
-use Rattle.wat_words.specs.declared.Command.TheVariants.{Init, Run}
+use Rattle.wat_words.specs.declared.Command.TheVariants.{Init, Run, Translate}
 
 -- the word begins with `-`
 abbrev pub is_dashed : List ℕ → Bool
@@ -25,6 +25,7 @@ abbrev pub plain_of : List ℕ → List (List ℕ) → Option Command
 plain_of name rest =
     if bytes_eq name (codes "init") then alone Init rest
     else if bytes_eq name (codes "run") then run_of rest
+    else if bytes_eq name (codes "translate") then alone Translate rest
     else None
 
 -- the command that the words are: none where a word begins with `-`
@@ -36,6 +37,7 @@ command_of (name ∷ rest) = if list_any is_dashed (name ∷ rest) then None els
 abbrev pub names_of : Command → List (List ℕ) → List (List ℕ)
 names_of Init words = []
 names_of Run words = drop 1 words
+names_of Translate words = []
 
 -- the words that `clap` is given to read: none begins with `-`, and the first is not `help`
 abbrev pub is_for_clap : List (List ℕ) → Bool

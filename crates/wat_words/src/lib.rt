@@ -19,6 +19,8 @@ pub enum Command {
     Init,
     /// `run SCRIPT`: runs one script.
     Run,
+    /// `translate`: prints the log as SQL.
+    Translate,
 }
 
 /// A word that has to be there.
@@ -62,7 +64,8 @@ fn line<'a>(alloc: Global) -> Result<clap::Command<'a>, AllocError>
 {
     empty_line(alloc)
         .subcommand(alone(alloc, "init"))?
-        .subcommand(run(alloc)?)
+        .subcommand(run(alloc)?)?
+        .subcommand(alone(alloc, "translate"))
 }
 
 fn is_dashed(word: &str) -> bool
@@ -99,6 +102,7 @@ fn command_named(name: &str) -> Option<Command>
     match name {
         "init" => Some(Command::Init),
         "run" => Some(Command::Run),
+        "translate" => Some(Command::Translate),
         _ => None,
     }
 }
@@ -139,7 +143,7 @@ pub fn script_names(command: Command, words: &[String]) -> &[String]
     ensures { map string_bytes result.now ≡ names_of command (map string_bytes words.now) }
 {
     match command {
-        Command::Init => &words[..0],
+        Command::Init | Command::Translate => &words[..0],
         Command::Run => match words {
             [] => words,
             [_, names @ ..] => names,

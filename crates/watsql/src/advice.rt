@@ -10,6 +10,7 @@ use wat_words::Command;
 const COMMANDS: &str = "The commands, in the folder of the database:
   watsql init         makes an empty database
   watsql run SCRIPT   does the statements of the file SCRIPT, and writes an answer for each
+  watsql translate    writes the committed transactions as statements of SQL
 ";
 
 // Whether rows were changed after the last commit, so that the changes are dropped.

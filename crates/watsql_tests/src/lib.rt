@@ -18,3 +18,5 @@ mod making;
 mod statuses;
 #[cfg(test)]
 mod stops;
+#[cfg(test)]
+mod translating;

@@ -3,9 +3,9 @@ use Rattle.std.specs.Prelude.{⊤}
 use Rattle.wat_disk.specs.Disk.{Told}
 use Rattle.wat_words.specs.Commands.{command_of, names_of}
 use Rattle.wat_words.specs.declared.Command.{Command}
-use Rattle.wat_words.specs.declared.Command.TheVariants.{Init, Run}
+use Rattle.wat_words.specs.declared.Command.TheVariants.{Init, Run, Translate}
 use Rattle.wat_begin.specs.declared.fault.Fault.{Fault}
-use Rattle.wat_tool.proofs.EndingLemmas.{asks_none, or_memory}
+use Rattle.wat_tool.proofs.EndingLemmas.{asks_none, leaves_all, or_memory, translate_ends}
 use Rattle.wat_tool.proofs.UntouchedLemmas.{first_byte_here, untouched_here}
 use Rattle.wat_tool.specs.declared.performing.Done.{Done}
 use Rattle.wat_tool.specs.declared.performing.Done.TheVariants.{Made}
@@ -64,6 +64,30 @@ returns-in-Ok-clause-asks g c = asks_none (names_called (map string_bytes c.args
 
 pub returns-in-Err-make_database-clause-asks : goal.returns-in-Err-make_database-clause-asks
 returns-in-Err-make_database-clause-asks g c = asks_none (names_called (map string_bytes c.args.words.now)) (g.L.Scripts.asked c.args.scripts.now)
+
+pub returns-in-Ok-Some-Translate-clause-ends : goal.returns-in-Ok-Some-Translate-clause-ends
+returns-in-Ok-Some-Translate-clause-ends g c =
+    let words = map string_bytes c.args.words.now in
+    let command : command_of words ≡ Some Translate =
+    let read = c.in-Ok-Some-Translate.ensures.command in let some = c.in-Ok-Some-Translate.field-0-is in let translate = c.in-Ok-Some-Translate.field-0-0-is in cc in
+    let outside : Outside = record {
+      texts = g.L.Scripts.texts c.args.scripts.now;
+      asked_before = g.L.Scripts.asked c.args.scripts.now;
+      asked = g.L.Scripts.asked c.args.scripts.now;
+      script_faults_before = g.L.Scripts.faults c.args.scripts.now;
+      script_faults = g.L.Scripts.faults c.args.scripts.now;
+      tells = g.D.Disk.tells_content;
+      disk_before = g.D.Disk.told c.args.disk.now;
+      disk = g.D.Disk.told c.translate_log.new.disk;
+    } in
+    translate_ends outside words c.translate_log.result command c.translate_log.ensures.ends
+
+pub returns-in-Ok-Some-Translate-clause-asks : goal.returns-in-Ok-Some-Translate-clause-asks
+returns-in-Ok-Some-Translate-clause-asks g c = asks_none (names_called (map string_bytes c.args.words.now)) (g.L.Scripts.asked c.args.scripts.now)
+
+pub returns-in-Ok-Some-Translate-clause-untouched : goal.returns-in-Ok-Some-Translate-clause-untouched
+returns-in-Ok-Some-Translate-clause-untouched g c =
+    leaves_all (map string_bytes c.args.words.now) (g.D.Disk.told c.args.disk.now) (g.D.Disk.told c.translate_log.new.disk) c.translate_log.result c.translate_log.ensures.untouched c.translate_log.ensures.on_disk
 
 pub returns-in-Ok-None-clause-ends : goal.returns-in-Ok-None-clause-ends
 returns-in-Ok-None-clause-ends g c =

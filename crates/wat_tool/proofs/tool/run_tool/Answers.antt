@@ -6,6 +6,7 @@ use Rattle.wat_tool.specs.declared.performing.Done.{Done}
 use Rattle.wat_tool.specs.Ending.{Outside, Ends, LeavesUntouched}
 use Rattle.wat_tool.specs.Finishes.{Finishes}
 use Rattle.wat_tool.specs.Reporting.{Output, Reports}
+use Rattle.wat_tool.proofs.BackLemmas.{gives_back}
 use Rattle.wat_tool.proofs.EndingLemmas.{outcome_fault}
 use Rattle.wat_tool.proofs.SessionLemmas.{outcome_has}
 use Rattle.wat_tool.proofs.StatusLemmas.{status_0, status_1, status_1_or_7, status_2, status_4}
@@ -37,11 +38,13 @@ returns g c =
     let done = c.perform-ended.ensures in
     let reports : Reports output end status = c.report-status.ensures in
     let left = c.finished.result in
-    let is : Finishes (outside now) output words status left.outcome left.session = record {
+    let is : Finishes (outside now) output words status left.outcome left.session left.text = record {
       ends = subst (Ends (outside now) words) (sym c.finished.ensures.ended) done.ends;
       asks = done.asks;
       nothing_asked = c.finished.ensures.nothing_asked;
-      history = outcome_has (outside now) words left.outcome left.session (subst (Ends (outside now) words) (sym c.finished.ensures.ended) done.ends);
+      nothing_read_back = c.finished.ensures.nothing_read_back;
+      read_back = gives_back (now.content 2) c.translated_law.ensures.runs;
+      history = outcome_has (outside now) words left.outcome left.session left.text (subst (Ends (outside now) words) (sym c.finished.ensures.ended) done.ends);
       untouched = subst (λ (o : Result Command Fault). IfErr o (LeavesUntouched words (g.D.Disk.told c.args.disk) now)) (sym c.finished.ensures.outcome) (outcome_fault end (LeavesUntouched words (g.D.Disk.told c.args.disk) now) done.untouched);
       init = done.init;
       reports = subst (λ (e : Result Done Fault). Reports output e status) (sym c.finished.ensures.ended) reports;
@@ -51,5 +54,5 @@ returns g c =
       no_command = λ none. status_1_or_7 output end status reports (done.no_command none);
       well = status_0 (outside now) words output end status done.ends reports;
     } in
-    subst (λ d. Finishes (outside (g.D.Disk.told d)) output words left.status left.outcome left.session) (sym c.finished.ensures.disk)
-    (subst (λ (s : ℕ). Finishes (outside now) output words s left.outcome left.session) (sym c.finished.ensures.status) is)
+    subst (λ d. Finishes (outside (g.D.Disk.told d)) output words left.status left.outcome left.session left.text) (sym c.finished.ensures.disk)
+    (subst (λ (s : ℕ). Finishes (outside now) output words s left.outcome left.session left.text) (sym c.finished.ensures.status) is)
