@@ -1,2 +1,4 @@
+pub mod Altered
 pub mod Holding
+pub mod Renaming
 pub mod Rooted
