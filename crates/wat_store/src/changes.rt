@@ -13,14 +13,15 @@ ghost use Rattle.wat_replay.specs.Committed.{CommitsNothing};
 ghost use Rattle.wat_objects.specs.Objects.{pages_of};
 ghost use Rattle.wat_store.specs.Parts.{AreOpen, IsStore, StopsAt};
 
-use crate::composed::commit_noted;
+use crate::composed::{commit_noted, flush_noted};
 use crate::steps::relieve;
 use crate::taking_back::{forget_list, undo_changes};
 use wat_disk::{Disk, DiskFault};
 use wat_log::Log;
 use wat_objects::Objects;
-use wat_pages::PageRefusal;
+use wat_pages::{PageRefusal, Within};
 use wat_record::LogRecord;
+use wat_value::SchemaChange;
 
 /// Commits the connection's changes, and leaves its list empty.
 pub(crate) fn commit_list<D: Disk>(
@@ -41,6 +42,38 @@ pub(crate) fn commit_list<D: Disk>(
 {
     commit_noted(disk, objects.pages(), log, conn)?;
     forget_list(objects, conn);
+    Ok(())
+}
+
+/// Makes a change of the schema that is allowed, and puts it on the disk.
+pub(crate) fn alter_schema<D: Disk>(
+    disk: &mut D,
+    objects: &mut Objects,
+    log: &mut Log,
+    change: SchemaChange,
+) -> Result<(), PageRefusal>
+    requires known { D.tells_content → AreOpen (D.told disk.old) objects.old log.old }
+    requires room { length (noted_bytes log.old) ≤ 1048576 }
+    requires writable { IsWritableSchema change }
+    requires short { length (record_bytes (entry.Schema change)) ≤ 900000 }
+
+    ensures known { D.tells_content → OnOk result (AreOpen (D.told disk.new) objects.new log.new) }
+    ensures room { OnOk result (length (noted_bytes log.new) ≤ 1048576) }
+    ensures altered { D.tells_content → (s next : State) (t after : Tables) → IsStore (D.told disk.old) objects.old log.old s t → Applies (entry.Schema change) s next → undone next ≡ Some after → OnOk result (IsStore (D.told disk.new) objects.new log.new next after) }
+    ensures stops { D.tells_content → (s next : State) (t after : Tables) → IsStore (D.told disk.old) objects.old log.old s t → Applies (entry.Schema change) s next → undone next ≡ Some after → StopsAt (D.told disk.old) (D.told disk.new) objects.old t after }
+
+    // After a refusal that is no fault of the disk no image has the change.
+    ensures without { D.tells_content → (s next : State) (t after : Tables) → IsStore (D.told disk.old) objects.old log.old s t → Applies (entry.Schema change) s next → undone next ≡ Some after
+        → IfErr result (λ refusal. refusal ≢ PageRefusal.DiskFault → StopsAt (D.told disk.old) (D.told disk.new) objects.old t t) }
+
+    ensures limit { D.tells_content → limit_of (pages_of objects.new) ≡ limit_of (pages_of objects.old) }
+    ensures undamaged { D.tells_content → (s : State) (t : Tables) → IsStore (D.told disk.old) objects.old log.old s t → IfErr result (λ refusal. IfDamaged refusal (λ file at. ⊥)) }
+    ensures limited { IfErr result (λ refusal. IfPageLimit refusal (λ count limit. (limit ≡ limit_of (pages_of objects.old)) × (limit ≤ count))) }
+    ensures cause { HasCause (D.told disk.old).faults (D.told disk.new).faults (result ≡ Err PageRefusal.DiskFault) }
+{
+    objects.alter(disk, &change, Within::Limit)?;
+    log.note(&LogRecord::Schema(change))?;
+    flush_noted(disk, objects.pages(), log)?;
     Ok(())
 }
 

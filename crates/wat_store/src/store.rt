@@ -15,7 +15,7 @@ ghost use Rattle.wat_replay.specs.State.{State, undone};
 ghost use Rattle.wat_replay.specs.Replay.{Applies};
 ghost use Rattle.wat_store.specs.Parts.{AreOpen};
 
-use crate::changes::{commit_list, roll_back, undo_list};
+use crate::changes::{alter_schema, commit_list, roll_back, undo_list};
 use crate::saving::save_all;
 use crate::steps::make_change;
 use wat_disk::{Disk, DiskFault};
@@ -24,7 +24,7 @@ use wat_log::Log;
 use wat_objects::Objects;
 use wat_pages::PageRefusal;
 use wat_schema::Schema;
-use wat_value::{Change, Key, Keys, Row};
+use wat_value::{Change, Key, Keys, Row, SchemaChange};
 
 /// Why a call of a store gave up.
 pub type StoreRefusal = PageRefusal;
@@ -171,6 +171,38 @@ impl<D: Disk> Store<D> {
             return Err(refusal);
         }
         match roll_back(&mut self.disk, &mut self.objects, &mut self.log, conn) {
+            Ok(()) => Ok(()),
+            Err(refusal) => {
+                self.refused = Some(refusal);
+                Err(refusal)
+            }
+        }
+    }
+
+    /// Makes a change of the schema that is allowed, while no connection has changes. At `Ok` each later stop leaves it.
+    pub fn alter(&mut self, change: SchemaChange) -> Result<(), StoreRefusal>
+        requires writable { IsWritableSchema change }
+        requires short { length (record_bytes (entry.Schema change)) ≤ 900000 }
+
+        ensures altered { D.tells_content → (s next : State) (t after : Tables) → IsStoreOf self.old s t → Applies (entry.Schema change) s next → undone next ≡ Some after → OnOk result (IsStoreOf self.new next after) }
+        ensures stops { D.tells_content → (s next : State) (t after : Tables) → IsStoreOf self.old s t → Applies (entry.Schema change) s next → undone next ≡ Some after → Stops self.old self.new t after }
+
+        // After a refusal that is no fault of the disk no image has the change.
+        ensures without { D.tells_content → (s next : State) (t after : Tables) → IsStoreOf self.old s t → Applies (entry.Schema change) s next → undone next ≡ Some after → IfErr result (λ refusal. refusal ≢ PageRefusal.DiskFault → Stops self.old self.new t t) }
+
+        ensures limit { D.tells_content → limit_in self.new ≡ limit_in self.old }
+        ensures undamaged { D.tells_content → (s : State) (t : Tables) → IsStoreOf self.old s t → IfErr result (λ refusal. IfDamaged refusal (λ file at. ⊥)) }
+        ensures limited { refusal_of self.old ≡ None → IfErr result (λ refusal. IfPageLimit refusal (λ count limit. (limit ≡ limit_in self.old) × (limit ≤ count))) }
+
+        // On a store that has refused, the same refusal, with no call of the disk.
+        ensures refused { (refusal : AnyRefusal) → refusal_of self.old ≡ Some refusal → (result ≡ Err refusal) × (self.new ≡ self.old) }
+        ensures refuses { refusal_of self.old ≡ None → IfErr result (λ refusal. refusal_of self.new ≡ Some refusal) }
+        ensures cause { refusal_of self.old ≡ None → HasCause (told_of self.old).faults (told_of self.new).faults (result ≡ Err PageRefusal.DiskFault) }
+    {
+        if let Some(refusal) = self.refused {
+            return Err(refusal);
+        }
+        match alter_schema(&mut self.disk, &mut self.objects, &mut self.log, change) {
             Ok(()) => Ok(()),
             Err(refusal) => {
                 self.refused = Some(refusal);
