@@ -1,4 +1,5 @@
 pub mod Altered
 pub mod Holding
+pub mod Looking
 pub mod Renaming
 pub mod Rooted

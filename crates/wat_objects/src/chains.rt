@@ -1,7 +1,8 @@
 // The two chains, and the checkpoint that they go into.
-ghost use Rattle.std.specs.Prelude.{◌≡◌, ◌<◌, ◌≤◌, ◌^◌, Err, length, IfOk, IfErr, OnOk};
+ghost use Rattle.std.specs.Prelude.{◌≡◌, ◌<◌, ◌≤◌, ◌^◌, [], Err, length, IfOk, IfErr, OnOk};
 ghost use Rattle.wat_disk.specs.Disk.{EachStop};
 ghost use Rattle.wat_faults.specs.Faults.{HasCause};
+ghost use Rattle.wat_gate.specs.Bodies.{bodies};
 ghost use Rattle.wat_restore.specs.Restored.{Checkpoint, OnlyPages};
 ghost use Rattle.wat_restore.specs.Safe.{IsSafe, CoversEither};
 ghost use Rattle.wat_images.specs.Refusal.{IfDamaged, IfPageLimit};
@@ -66,6 +67,8 @@ impl Objects {
         ensures holds { D.tells_content → (saved : Checkpoint) → IsSafe saved (D.told disk.old) → saved.count ≡ stored_of (pages_of self.old) → (s : State) (roots : AnyRoots) → HoldsRoots (D.told disk.old) self.old roots s
             → header.now.catalog ≡ roots.catalog → header.now.rollback ≡ roots.rollback → header.now.next_table ≡ roots.next_table → OnOk result (Holds (D.told disk.new) self.new s) }
 
+        // The before file has no images then, and the header is the one that was given.
+        ensures none { D.tells_content → OnOk result (bodies ((D.told disk.new).content 1) ≡ []) }
         ensures header { OnOk result (header_of (pages_of self.new) ≡ header.now) }
         ensures stored { OnOk result (stored_of (pages_of self.new) ≡ count_of (pages_of self.old)) }
         ensures limit { limit_of (pages_of self.new) ≡ limit_of (pages_of self.old) }

@@ -5,6 +5,7 @@ mod altering;
 mod chains;
 mod lists;
 mod objects;
+mod of_row;
 mod rows;
 
 pub use chains::Roots;
