@@ -1,0 +1,3 @@
+pub mod MoveProofs
+pub mod OnPages
+pub mod Repeated
