@@ -5,7 +5,7 @@ use Rattle.std.specs.List.{flat_map, AllByRecursion}
 use Rattle.std.specs.Map.{lookup}
 use Rattle.std.proofs.lemmas.Grind.{flat_map-append}
 use Rattle.wat_disk.specs.Disk.{Image, Told, IsSynced, EachStop, InFile, SameOthers}
-use Rattle.wat_disk.proofs.Stops.{stays}
+use Rattle.wat_disk.proofs.Stops.{stays, weaker}
 use Rattle.wat_gate.specs.Bodies.{bodies, end_of, IsWhole, KeepsOrAdds}
 use Rattle.wat_gate.specs.GateLog.{file_of, IsLogOf}
 use Rattle.wat_restore.specs.Restored.{HasPage, StandsIn, images_in}
@@ -141,6 +141,19 @@ flush_kept old new log limit stored noted more s next t after nothing stops adde
     (same_kept old limit stored noted s next t after k (same_now old log limit stored noted more s next t after k has none applied is)))
     (λ (some : noted_bytes log ≢ []).
     append_stays old new limit stored noted more s next t after (noted_bytes log) k (spells_noted log (noted ++ more) has some) applied is (stops some) (added some))
+    (empty_or (noted_bytes log))
+
+-- beside the log
+pub flush_beside : (old new : Told) (log : Log) → (noted_bytes log ≡ [] → new ≡ old) → (noted_bytes log ≢ [] → MayAppend (noted_bytes log) old new) → IsSynced old 2 → EachStop old new (SameOthers 2)
+flush_beside old new log nothing stops synced = ⊎_elim
+    (λ (none : noted_bytes log ≡ []). subst (λ (d : Told). EachStop old d (SameOthers 2)) (sym (nothing none)) (stays old (SameOthers 2) (λ image left other apart. refl)))
+    (λ (some : noted_bytes log ≢ []). weaker old new (InFile 2 (KeepsOrAdds (noted_bytes log))) (SameOthers 2) (stops some synced) (λ before image left step. step.others))
+    (empty_or (noted_bytes log))
+
+pub flush_synced : (old new : Told) (log : Log) → (noted_bytes log ≡ [] → new ≡ old) → (noted_bytes log ≢ [] → IsSynced new 2) → IsSynced old 2 → IsSynced new 2
+flush_synced old new log nothing some synced = ⊎_elim
+    (λ (none : noted_bytes log ≡ []). subst (λ (d : Told). IsSynced d 2) (sym (nothing none)) synced)
+    some
     (empty_or (noted_bytes log))
 
 -- a commit

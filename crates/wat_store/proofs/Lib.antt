@@ -2,6 +2,7 @@ pub mod Appended
 pub mod Changing
 pub mod Checkpointing
 pub mod Ending
+pub mod Safe
 pub mod Saved
 pub mod Standing
 pub mod Storing

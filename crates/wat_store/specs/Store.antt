@@ -1,22 +1,18 @@
 -- What a store knows of its disk, its objects and its log.
 use Rattle.std.specs.Prelude.{◌≡◌, ℕ, List, Option, None}
-use Rattle.wat_disk.specs.Disk.{Told, EachStop}
+use Rattle.wat_disk.specs.Disk.{Told}
 use Rattle.wat_disk.specs.declared.disk.Disk.{Ghosts}
 use Rattle.wat_images.specs.declared.refusal.PageRefusal.{PageRefusal}
 use Rattle.wat_pages.specs.Pages.{limit_of, header_of}
 use Rattle.wat_value.specs.declared.change.Change.{Change}
 use Rattle.wat_schema.specs.Catalog.{Catalog}
 use Rattle.wat_schema.specs.Tables.{Tables}
-use Rattle.wat_log_record.specs.declared.log_record.LogRecord.{LogRecord}
-use Rattle.wat_log.specs.declared.record_log.Log.{Log}
 use Rattle.wat_log.specs.Log as logs
-use Rattle.wat_replay.specs.State.{State, IsLawful}
-use Rattle.wat_keeping.specs.Durable.{LeavesEither}
-use Rattle.wat_keeping.specs.Kept.{IsKept}
+use Rattle.wat_replay.specs.State.{State}
 use Rattle.wat_objects.specs.declared.objects.Objects.{Objects}
 use Rattle.wat_objects.specs.Objects as objects
 use Rattle.wat_store.specs.declared.store.Store.{Store}
-use Rattle.wat_store.specs.Parts.{IsStore, StopsAt}
+use Rattle.wat_store.specs.Parts.{IsStore, HoldsSafe, StopsAt}
 use Rattle.wat_store.specs.Saving.{CountsLog}
 
 abbrev pub disk_of : {D : Type 0} {g : Ghosts D} (store : Store D g) → D
@@ -24,6 +20,9 @@ disk_of store = store.disk
 
 abbrev pub told_of : {D : Type 0} {g : Ghosts D} (store : Store D g) → Told
 told_of {D} {g} store = g.told store.disk
+
+abbrev pub objects_of : {D : Type 0} {g : Ghosts D} (store : Store D g) → Objects
+objects_of store = store.objects
 
 -- the first refusal of a call on its files
 abbrev pub refusal_of : {D : Type 0} {g : Ghosts D} (store : Store D g) → Option PageRefusal
@@ -40,6 +39,10 @@ schema_in store = objects.schema_of store.objects
 abbrev pub undo_in : {D : Type 0} {g : Ghosts D} (store : Store D g) → List (ℕ × List Change)
 undo_in store = objects.undo_of store.objects
 
+-- the bytes that are noted and not flushed
+abbrev pub noted_in : {D : Type 0} {g : Ghosts D} (store : Store D g) → List ℕ
+noted_in store = logs.noted_bytes store.log
+
 -- for how many commits room is made
 abbrev pub room_of : {D : Type 0} {g : Ghosts D} (store : Store D g) → ℕ
 room_of store = logs.spare_of store.log
@@ -48,6 +51,11 @@ room_of store = logs.spare_of store.log
 pub record IsStoreOf {D : Type 0} {g : Ghosts D} (store : Store D g) (s : State) (t : Tables) : Type 0 where
   pub going : store.refused ≡ None
   pub is : IsStore (g.told store.disk) store.objects store.log s t
+
+-- The store goes on and holds this state, whether its pages agree with its log or not.
+pub record HoldsIn {D : Type 0} {g : Ghosts D} (store : Store D g) (s : State) : Type 0 where
+  pub going : store.refused ≡ None
+  pub is : HoldsSafe (g.told store.disk) store.objects s
 
 -- a stop from one store to the other leaves a database of the one tables or of the others, with the page limit of the first
 abbrev pub Stops : {D : Type 0} {g : Ghosts D} (old new : Store D g) → Tables → Tables → Type 0

@@ -1,5 +1,5 @@
 ghost use Rattle.std.specs.Prelude.{◌≡◌, ◌<◌, ◌≤◌, ◌^◌, ◌++◌, [], ℕ, List, Some, IsErr, OnOk};
-ghost use Rattle.wat_disk.specs.Disk.{EachStop, SameOthers};
+ghost use Rattle.wat_disk.specs.Disk.{EachStop, IsSynced, SameOthers};
 ghost use Rattle.wat_faults.specs.Faults.{HasCause};
 ghost use Rattle.wat_book.specs.Book.{Owners};
 ghost use Rattle.wat_pages.specs.Pages.{book_of, limit_of, stored_of, next_head, IsPagesOf};
@@ -26,6 +26,10 @@ pub fn flush_noted<D: Disk>(disk: &mut D, pages: &Pages, log: &mut Log) -> Resul
     ensures noted { OnOk result (HasNoted log.new []) }
     ensures pages { D.tells_content → IsPagesOf (D.told disk.old) pages.now → IsPagesOf (D.told disk.new) pages.now }
     ensures others { SameOthers 2 (D.told disk.old).content (D.told disk.new).content }
+
+    // A stop at any moment leaves all other files as one before.
+    ensures beside { D.tells_content → IsSynced (D.told disk.old) 2 → EachStop (D.told disk.old) (D.told disk.new) (SameOthers 2) }
+    ensures synced { IsSynced (D.told disk.old) 2 → OnOk result (IsSynced (D.told disk.new) 2) }
 
     // A stop at any moment leaves a database of the committed tables from before, or of those with what the records commit.
     ensures stops { D.tells_content → (limit : ℕ) (noted more : List LogRecord) (s next : State) (t after : Tables)

@@ -1,6 +1,7 @@
 // A checkpoint of the store's parts.
 ghost use Rattle.std.specs.Prelude.{◌≡◌, ◌<◌, ◌≤◌, ◌^◌, [], ℕ, length, IfErr, OnOk};
 ghost use Rattle.wat_faults.specs.Faults.{HasCause};
+ghost use Rattle.wat_gate.specs.Bodies.{bodies};
 ghost use Rattle.wat_images.specs.Refusal.{IfDamaged, IfPageLimit};
 ghost use Rattle.wat_pages.specs.Pages.{limit_of, header_of, next_head};
 ghost use Rattle.wat_schema.specs.Tables.{Tables};
@@ -8,7 +9,7 @@ ghost use Rattle.wat_log.specs.Log.{HasNoted, IsOpenLog, noted_bytes};
 ghost use Rattle.wat_replay.specs.State.{State};
 ghost use Rattle.wat_objects.specs.Objects.{pages_of, undo_of};
 ghost use Rattle.wat_objects.specs.Chains.{header_with};
-ghost use Rattle.wat_store.specs.Parts.{AreOpen, IsStore, StopsAt};
+ghost use Rattle.wat_store.specs.Parts.{AreOpen, HoldsSafe, IsStore, StopsAt};
 ghost use Rattle.wat_store.specs.Saving.{CountsLog, Fits};
 
 use crate::composed::fit;
@@ -61,12 +62,15 @@ pub(crate) fn save_all<D: Disk>(
     requires few { length (undo_of objects.old) < 2 ^ 16 }
 
     ensures known { D.tells_content → OnOk result (AreOpen (D.told disk.new) objects.new log.new) }
+    ensures flushed { OnOk result (noted_bytes log.new ≡ []) }
     ensures room { OnOk result (length (noted_bytes log.new) ≤ 1048576) }
+    ensures none { D.tells_content → OnOk result (bodies ((D.told disk.new).content 1) ≡ []) }
     ensures saved { D.tells_content → OnOk result (CountsLog (D.told disk.new) (header_of (pages_of objects.new))) }
     ensures stands { D.tells_content → (s : State) (t : Tables) → IsStore (D.told disk.old) objects.old log.old s t → OnOk result (IsStore (D.told disk.new) objects.new log.new s t) }
     ensures stops { D.tells_content → (s : State) (t : Tables) → IsStore (D.told disk.old) objects.old log.old s t → StopsAt (D.told disk.old) (D.told disk.new) objects.old t t }
     ensures limit { D.tells_content → limit_of (pages_of objects.new) ≡ limit_of (pages_of objects.old) }
-    ensures undamaged { D.tells_content → (s : State) (t : Tables) → IsStore (D.told disk.old) objects.old log.old s t → IfErr result (λ refusal. IfDamaged refusal (λ file at. ⊥)) }
+    ensures holds { D.tells_content → (s : State) → HoldsSafe (D.told disk.old) objects.old s → OnOk result (HoldsSafe (D.told disk.new) objects.new s) }
+    ensures undamaged { D.tells_content → (s : State) → HoldsSafe (D.told disk.old) objects.old s → IfErr result (λ refusal. IfDamaged refusal (λ file at. ⊥)) }
     ensures limited { IfErr result (λ refusal. IfPageLimit refusal (λ count limit. (limit ≡ 4294967295) × (limit ≤ count))) }
     ensures cause { HasCause (D.told disk.old).faults (D.told disk.new).faults (result ≡ Err PageRefusal.DiskFault) }
 {

@@ -1,6 +1,6 @@
 // The calls of a store over its parts: the disk, the objects on its pages, and the log.
 ghost use Rattle.std.specs.Prelude.{◌≡◌, ◌≢◌, ◌<◌, ◌≤◌, ◌++◌, ◌∷◌, [], ℕ, List, Some, length, IsErr, IfErr, OnOk};
-ghost use Rattle.wat_disk.specs.Disk.{SameOthers};
+ghost use Rattle.wat_disk.specs.Disk.{EachStop, IsSynced, SameOthers};
 ghost use Rattle.wat_faults.specs.Faults.{HasCause};
 ghost use Rattle.wat_book.specs.Book.{Book};
 ghost use Rattle.wat_images.specs.Refusal.{IfDamaged, IfPageLimit};
@@ -39,6 +39,8 @@ pub(crate) fn settle<D: Disk>(
     ensures known { D.tells_content → OnOk result (AreOpen (D.told disk.new) objects.now log.new) }
     ensures noted { OnOk result (HasNoted log.new []) }
     ensures others { SameOthers 2 (D.told disk.old).content (D.told disk.new).content }
+    ensures beside { D.tells_content → IsSynced (D.told disk.old) 2 → EachStop (D.told disk.old) (D.told disk.new) (SameOthers 2) }
+    ensures synced { IsSynced (D.told disk.old) 2 → OnOk result (IsSynced (D.told disk.new) 2) }
     ensures stands { D.tells_content → (s : State) (t : Tables) → IsStore (D.told disk.old) objects.now log.old s t → OnOk result (IsStore (D.told disk.new) objects.now log.new s t) }
     ensures stops { D.tells_content → (s : State) (t : Tables) → IsStore (D.told disk.old) objects.now log.old s t → StopsAt (D.told disk.old) (D.told disk.new) objects.now t t }
     ensures cause { HasCause (D.told disk.old).faults (D.told disk.new).faults (IsErr result) }

@@ -1,7 +1,8 @@
 // The store: it owns its disk, what the database has on the pages of the disk, and the log.
-ghost use Rattle.std.specs.Prelude.{◌≡◌, ◌≢◌, ◌↔◌, ◌<◌, ◌≤◌, ◌^◌, ℕ, Some, None, true, length, IsErr, IsSome, IfOk, IfErr, OnOk};
+ghost use Rattle.std.specs.Prelude.{◌≡◌, ◌≢◌, ◌↔◌, ◌<◌, ◌≤◌, ◌^◌, [], ℕ, Some, None, true, length, IsErr, IsSome, IfOk, IfErr, OnOk};
 ghost use Rattle.std.proofs.Props.{props};
 ghost use Rattle.wat_faults.specs.Faults.{HasCause};
+ghost use Rattle.wat_gate.specs.Bodies.{bodies};
 ghost use Rattle.wat_value.specs.Order.{key_cmp};
 ghost use Rattle.wat_list.specs.Has.{Has};
 ghost use Rattle.wat_list.specs.Rising.{rising};
@@ -13,7 +14,7 @@ ghost use Rattle.wat_log_record.specs.declared.log_record.LogRecord.TheVariants 
 ghost use Rattle.wat_log.specs.Log.{noted_bytes};
 ghost use Rattle.wat_replay.specs.State.{State, undone};
 ghost use Rattle.wat_replay.specs.Replay.{Applies};
-ghost use Rattle.wat_store.specs.Parts.{AreOpen};
+ghost use Rattle.wat_store.specs.Parts.{AreOpen, HoldsSafe, IsStore};
 
 use crate::changes::{alter_schema, commit_list, roll_back, undo_list};
 use crate::saving::save_all;
@@ -43,7 +44,26 @@ pub struct Store<D: Disk> {
 }
 
 impl<D: Disk> Store<D> {
-    ghost use Rattle.wat_store.specs.Store.{disk_of, told_of, refusal_of, limit_in, schema_in, undo_in, room_of, IsStoreOf, Stops, CountsAll};
+    ghost use Rattle.wat_store.specs.Store.{disk_of, told_of, objects_of, refusal_of, limit_in, schema_in, undo_in, noted_in, room_of, IsStoreOf, HoldsIn, Stops, CountsAll};
+
+    /// The store of a disk, what a database has on its pages, and its log.
+    pub fn of(disk: D, objects: Objects, log: Log) -> Self
+        requires known { D.tells_content → AreOpen (D.told disk) objects log }
+        requires buffered { length (noted_bytes log) ≤ 1048576 }
+        ensures going { refusal_of result ≡ None }
+        ensures disk { disk_of result ≡ disk }
+        ensures objects { objects_of result ≡ objects }
+        ensures noted { noted_in result ≡ noted_bytes log }
+        ensures stands { (s : State) (t : Tables) → IsStore (D.told disk) objects log s t → IsStoreOf result s t }
+        ensures holds { (s : State) → HoldsSafe (D.told disk) objects s → HoldsIn result s }
+    {
+        Store {
+            disk,
+            objects,
+            log,
+            refused: None,
+        }
+    }
 
     /// The schema now.
     pub fn schema(&self) -> &Schema
@@ -217,10 +237,20 @@ impl<D: Disk> Store<D> {
         requires few { length (undo_in self.old) < 2 ^ 16 }
 
         ensures stands { D.tells_content → (s : State) (t : Tables) → IsStoreOf self.old s t → OnOk result (IsStoreOf self.new s t) }
+
+        // The header counts all frames of the log then, the before file has no images, and nothing is noted.
         ensures saved { D.tells_content → OnOk result (CountsAll self.new) }
+        ensures none { D.tells_content → OnOk result (bodies ((told_of self.new).content 1) ≡ []) }
+        ensures flushed { OnOk result (noted_in self.new ≡ []) }
+
         ensures stops { D.tells_content → (s : State) (t : Tables) → IsStoreOf self.old s t → Stops self.old self.new t t }
         ensures limit { D.tells_content → limit_in self.new ≡ limit_in self.old }
         ensures undamaged { D.tells_content → (s : State) (t : Tables) → IsStoreOf self.old s t → IfErr result (λ refusal. IfDamaged refusal (λ file at. ⊥)) }
+
+        // The same of a state on pages that don't agree with the log.
+        ensures holds { D.tells_content → (s : State) → HoldsIn self.old s → OnOk result (HoldsIn self.new s) }
+        ensures holds_undamaged { D.tells_content → (s : State) → HoldsIn self.old s → IfErr result (λ refusal. IfDamaged refusal (λ file at. ⊥)) }
+
         ensures limited { refusal_of self.old ≡ None → IfErr result (λ refusal. IfPageLimit refusal (λ count limit. (limit ≡ 4294967295) × (limit ≤ count))) }
 
         // On a store that has refused, the same refusal, with no call of the disk.

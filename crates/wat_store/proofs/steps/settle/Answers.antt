@@ -44,3 +44,12 @@ returns-in_err-flush_noted-clause-stops g c tells s t is =
     flush_stops old (g.D.Disk.told c.flush_noted.new.disk) c.args.objects.now c.args.log.now s t is
     (λ noted more s next t after k has applied ends.
     c.flush_noted.ensures.stops tells limit noted more s next t after (subst (λ (p : Pages). IsKept limit (stored_of p) old noted s t) (sym e) k) has applied ends)
+
+pub returns-clause-beside : goal.returns-clause-beside
+returns-clause-beside g c tells synced = c.flush_noted.ensures.beside tells synced
+
+pub returns-in_err-flush_noted-clause-beside : goal.returns-in_err-flush_noted-clause-beside
+returns-in_err-flush_noted-clause-beside g c tells synced = c.flush_noted.ensures.beside tells synced
+
+pub returns-clause-synced : goal.returns-clause-synced
+returns-clause-synced g c synced = c.in_ok-flush_noted.ensures.synced synced
