@@ -1,0 +1,4 @@
+pub mod Answering
+pub mod Brought
+pub mod Finishing
+pub mod Reading
