@@ -1,0 +1,4 @@
+pub mod New
+pub mod Sound
+pub mod Unmade
+pub mod Written
