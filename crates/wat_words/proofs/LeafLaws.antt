@@ -6,7 +6,7 @@ use Rattle.clap.specs.Simple.{Shape, built_leaf, inherited}
 use Rattle.clap.specs.Kinds.{Kinds}
 use Rattle.clap.specs.Faults.{defaults_fault}
 use Rattle.wat_words.specs.declared.Command.{Command}
-use Rattle.wat_words.specs.declared.Command.TheVariants.{Init, Translate}
+use Rattle.wat_words.specs.declared.Command.TheVariants.{Init, Translate, Dump}
 use Rattle.wat_words.specs.Commands.{alone, run_of}
 use Rattle.wat_words.specs.Line.{command_named, leaf, run_rules}
 use Rattle.wat_words.proofs.PlainWalk.{plain_level}
@@ -33,6 +33,11 @@ pub translate_law : (rest : List Text) → LeafReads (codes "translate") [] rest
 unfolding defaults_fault
 translate_law [] = refl
 translate_law (a ∷ rest) = refl
+
+pub dump_law : (rest : List Text) → LeafReads (codes "dump") [] rest (alone Dump rest)
+unfolding defaults_fault
+dump_law [] = refl
+dump_law (a ∷ rest) = refl
 
 pub run_law : (rest : List Text) → LeafReads (codes "run") run_rules rest (run_of rest)
 unfolding defaults_fault

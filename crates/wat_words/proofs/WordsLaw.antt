@@ -13,7 +13,7 @@ use Rattle.wat_words.specs.Commands.{command_of, is_dashed, is_for_clap, plain_o
 use Rattle.wat_words.specs.Line.{command_line, command_named, found_command, run_rules}
 use Rattle.wat_words.proofs.TopLaw.{enters, enters_with, refuses, refuses_none}
 use Rattle.wat_words.proofs.PlainWalk.{either_false, level_is}
-use Rattle.wat_words.proofs.LeafLaws.{LeafReads, Reads, init_law, ready, run_law, translate_law}
+use Rattle.wat_words.proofs.LeafLaws.{LeafReads, Reads, dump_law, init_law, ready, run_law, translate_law}
 
 abbrev subs : List Shape
 subs = (built command_line).subs
@@ -60,20 +60,22 @@ record IsOther (name : Text) : Type 0 where
   init : bytes_eq name (codes "init") ≡ false
   run : bytes_eq name (codes "run") ≡ false
   translate : bytes_eq name (codes "translate") ≡ false
+  dump : bytes_eq name (codes "dump") ≡ false
 
-by_name : (P : Text → Type 0) → P (codes "init") → P (codes "run") → P (codes "translate") → ((name : Text) → IsOther name → P name) → (name : Text) → P name
-by_name P init run translate other name =
-    choose P (codes "init") name init (λ e0. choose P (codes "run") name run (λ e1. choose P (codes "translate") name translate (λ e2. other name (record {
+by_name : (P : Text → Type 0) → P (codes "init") → P (codes "run") → P (codes "translate") → P (codes "dump") → ((name : Text) → IsOther name → P name) → (name : Text) → P name
+by_name P init run translate dump other name =
+    choose P (codes "init") name init (λ e0. choose P (codes "run") name run (λ e1. choose P (codes "translate") name translate (λ e2. choose P (codes "dump") name dump (λ e3. other name (record {
       init = e0;
       run = e1;
       translate = e2;
-    }))))
+      dump = e3;
+    })))))
 
 no_such_command : (name : Text) (rest : List Text) → IsOther name → plain_of name rest ≡ None
-no_such_command name rest o = rw (o.init, o.run, o.translate) refl
+no_such_command name rest o = rw (o.init, o.run, o.translate, o.dump) refl
 
 not_found : (name : Text) → IsOther name → find (answers_to name) (map label_of subs) ≡ None
-not_found name o = rw (flip _ _ o.init, flip _ _ o.run, flip _ _ o.translate) refl
+not_found name o = rw (flip _ _ o.init, flip _ _ o.run, flip _ _ o.translate, flip _ _ o.dump) refl
 
 -- ---- the words that clap is given
 
@@ -113,6 +115,7 @@ words_law (name ∷ rest) readable =
     (named (codes "init") [] refl refl refl refl init_law)
     (named (codes "run") run_rules refl refl refl refl run_law)
     (named (codes "translate") [] refl refl refl refl translate_law)
+    (named (codes "dump") [] refl refl refl refl dump_law)
     other_read name rest plain)
 
 -- ---- words that clap is not given are no command

@@ -3,7 +3,7 @@ use Rattle.std.specs.Prelude.{ℕ, Bool, true, false, not, ◌&&◌, ◌==◌, L
 use Rattle.std.specs.List.{list_any}
 use Rattle.std.specs.Str.{bytes_eq}
 use Rattle.wat_words.specs.declared.Command.{Command}
-use Rattle.wat_words.specs.declared.Command.TheVariants.{Init, Run, Translate}
+use Rattle.wat_words.specs.declared.Command.TheVariants.{Init, Run, Translate, Dump}
 
 -- the word begins with `-`
 abbrev pub is_dashed : List ℕ → Bool
@@ -26,6 +26,7 @@ plain_of name rest =
     if bytes_eq name (codes "init") then alone Init rest
     else if bytes_eq name (codes "run") then run_of rest
     else if bytes_eq name (codes "translate") then alone Translate rest
+    else if bytes_eq name (codes "dump") then alone Dump rest
     else None
 
 -- the command that the words are: none where a word begins with `-`
@@ -38,6 +39,7 @@ abbrev pub names_of : Command → List (List ℕ) → List (List ℕ)
 names_of Init words = []
 names_of Run words = drop 1 words
 names_of Translate words = []
+names_of Dump words = []
 
 -- the words that `clap` is given to read: none begins with `-`, and the first is not `help`
 abbrev pub is_for_clap : List (List ℕ) → Bool

@@ -5,7 +5,7 @@ use Rattle.clap.specs.Words.{App, Shape, Row, Rule, new_rule}
 use Rattle.clap.specs.Simple.{new_shape}
 use Rattle.clap.specs.declared.builder.action.ArgAction.TheVariants.{Set}
 use Rattle.wat_words.specs.declared.Command.{Command}
-use Rattle.wat_words.specs.declared.Command.TheVariants.{Init, Run, Translate}
+use Rattle.wat_words.specs.declared.Command.TheVariants.{Init, Run, Translate, Dump}
 
 -- a word that has to be there
 abbrev pub word_rule : List ℕ → Rule
@@ -21,7 +21,7 @@ abbrev pub run_rules : List Rule
 run_rules = word_rule (codes "script") ∷ []
 
 abbrev pub leaves : List Shape
-leaves = leaf (codes "init") [] ∷ leaf (codes "run") run_rules ∷ leaf (codes "translate") [] ∷ []
+leaves = leaf (codes "init") [] ∷ leaf (codes "run") run_rules ∷ leaf (codes "translate") [] ∷ leaf (codes "dump") [] ∷ []
 
 abbrev pub empty_line : App
 empty_line = record {
@@ -43,6 +43,7 @@ command_named name =
     if bytes_eq name (codes "init") then Some Init
     else if bytes_eq name (codes "run") then Some Run
     else if bytes_eq name (codes "translate") then Some Translate
+    else if bytes_eq name (codes "dump") then Some Dump
     else None
 
 -- the command of the subcommand that `clap` found with its entries

@@ -21,6 +21,8 @@ pub enum Command {
     Run,
     /// `translate`: prints the log as SQL.
     Translate,
+    /// `dump`: prints the tables as SQL.
+    Dump,
 }
 
 /// A word that has to be there.
@@ -65,7 +67,8 @@ fn line<'a>(alloc: Global) -> Result<clap::Command<'a>, AllocError>
     empty_line(alloc)
         .subcommand(alone(alloc, "init"))?
         .subcommand(run(alloc)?)?
-        .subcommand(alone(alloc, "translate"))
+        .subcommand(alone(alloc, "translate"))?
+        .subcommand(alone(alloc, "dump"))
 }
 
 fn is_dashed(word: &str) -> bool
@@ -103,6 +106,7 @@ fn command_named(name: &str) -> Option<Command>
         "init" => Some(Command::Init),
         "run" => Some(Command::Run),
         "translate" => Some(Command::Translate),
+        "dump" => Some(Command::Dump),
         _ => None,
     }
 }
@@ -143,7 +147,7 @@ pub fn script_names(command: Command, words: &[String]) -> &[String]
     ensures { map string_bytes result.now ≡ names_of command (map string_bytes words.now) }
 {
     match command {
-        Command::Init | Command::Translate => &words[..0],
+        Command::Init | Command::Translate | Command::Dump => &words[..0],
         Command::Run => match words {
             [] => words,
             [_, names @ ..] => names,

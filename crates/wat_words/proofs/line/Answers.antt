@@ -11,4 +11,5 @@ returns c =
     let s0 = c.empty_line.ensures in
     let s1 = c.in_ok-subcommand.ensures.shape c.alone.ensures.local ∙ ap₂ with_subcommand s0 (ap top_of c.alone.ensures.app) in
     let s2 = c.in_ok-subcommand-2.ensures.shape c.in_ok-run.ensures.local ∙ ap₂ with_subcommand s1 (ap top_of c.in_ok-run.ensures.app) in
-    IfOk-weaker c.subcommand-3.result _ _ (λ r h. h.shape c.alone-2.ensures.local ∙ ap₂ with_subcommand s2 (ap top_of c.alone-2.ensures.app)) c.subcommand-3.ensures
+    let s3 = c.in_ok-subcommand-3.ensures.shape c.alone-2.ensures.local ∙ ap₂ with_subcommand s2 (ap top_of c.alone-2.ensures.app) in
+    IfOk-weaker c.subcommand-4.result _ _ (λ r h. h.shape c.alone-3.ensures.local ∙ ap₂ with_subcommand s3 (ap top_of c.alone-3.ensures.app)) c.subcommand-4.ensures
