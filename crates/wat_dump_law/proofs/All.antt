@@ -1,22 +1,19 @@
 -- All tables are made, one behind the other.
-use Rattle.std.proofs.Common.{◌≡◌, ℕ, suc, ◌+◌, ◌==◌, ◌<◌, ◌≤◌, ◌||◌, Bool, true, false, List, [], ◌∷◌, ◌++◌, map, length, Some, refl, sym, ap, ap₂, subst, ◌∙◌, append_assoc, append-nil, length-append, arith}
+use Rattle.std.proofs.Common.{◌≡◌, ℕ, ◌+◌, ◌==◌, ◌≤◌, ◌||◌, true, false, List, [], ◌∷◌, ◌++◌, map, length, refl, sym, ap, subst, ◌∙◌, append_assoc, append-nil, length-append, arith}
 use Rattle.std.specs.List.{flat_map, list_all, list_any}
 use Rattle.std.specs.Str.{bytes_eq}
 use Rattle.std.proofs.lemmas.Bool.{and_parts, or_from, ne_eqb}
 use Rattle.std.proofs.lemmas.List.{map-append}
 use Rattle.std.proofs.lemmas.List.Folds.{list_any-append}
-use Rattle.std.proofs.lemmas.Grind.{flat_map-append}
 use Rattle.std.proofs.lemmas.Simd.{map-map}
 use Rattle.wat_value.specs.declared.definition.IndexDef.{IndexDef}
-use Rattle.wat_value.specs.declared.change.Act.{Act}
-use Rattle.wat_ast.specs.declared.statement.Statement.{Statement}
 use Rattle.wat_schema.specs.Catalog.{Listing, Name, repeats}
 use Rattle.wat_schema.specs.Stored.{is_whole}
-use Rattle.wat_schema.specs.Tables.{Table, Tables, IsTables, apply_all, catalog_of, is_table, listing_of, no_tables}
+use Rattle.wat_schema.specs.Tables.{Table, Tables, IsTables, is_table, listing_of, no_tables}
 use Rattle.wat_schema.proofs.Again.{length-map_of, names_of_one}
 use Rattle.wat_schema.proofs.Distinct.{fresh_before}
 use Rattle.wat_dump.specs.Dump.{makings}
-use Rattle.wat_dump_law.specs.Anew.{anew, numbered, numbered_from, of_number}
+use Rattle.wat_dump_law.specs.Anew.{anew, numbered, numbered_from}
 use Rattle.wat_dump_law.proofs.Last.{last, names_in, none_has}
 use Rattle.wat_dump_law.proofs.OneTable.{names_same, one_table}
 use Rattle.wat_dump_law.proofs.Plain.{plain}

@@ -1,20 +1,17 @@
 -- What an act makes of the last table.
-use Rattle.std.proofs.Common.{◌≡◌, ℕ, suc, ◌+◌, ◌==◌, ◌<◌, ◌≤◌, ◌||◌, ◌&&◌, Bool, true, false, not, cond, if◌then◌else◌, List, [], ◌∷◌, ◌++◌, map, max, length, is_none, Option, Some, None, nat_le, refl, sym, ap, ap₂, subst, ◌∙◌, append_assoc, append-nil, arith}
+use Rattle.std.proofs.Common.{◌≡◌, ℕ, suc, ◌+◌, ◌==◌, ◌<◌, ◌≤◌, ◌&&◌, true, false, not, cond, if◌then◌else◌, List, [], ◌∷◌, ◌++◌, map, max, length, is_none, Option, Some, None, nat_le, refl, sym, ap, ap₂, subst, ◌∙◌, append_assoc, append-nil, arith}
 use Rattle.std.specs.List.{find, fold, list_all, list_any}
 use Rattle.std.specs.Option.{option_map, option_and_then}
 use Rattle.std.specs.Str.{bytes_eq}
 use Rattle.std.proofs.lemmas.Bool.{and_parts, and_from, or_parts, or_from, eq-eqb, lt-leb}
 use Rattle.std.proofs.lemmas.List.{map-append}
-use Rattle.std.proofs.lemmas.List.Folds.{list_any-append}
 use Rattle.std.proofs.lemmas.List.Sums.{fold-append}
 use Rattle.wat_list.specs.Rising.{rising}
 use Rattle.wat_value.specs.declared.definition.TableDef.{TableDef}
 use Rattle.wat_value.specs.declared.definition.IndexDef.{IndexDef}
 use Rattle.wat_value.specs.declared.change.SchemaChange.TheVariants.{CreateTable, CreateIndex}
-use Rattle.wat_value.specs.declared.change.Act.{Act}
 use Rattle.wat_value.specs.Fits.{fits}
-use Rattle.wat_ast.specs.declared.statement.Statement.{Statement}
-use Rattle.wat_schema.specs.Catalog.{Catalog, Listing, Name, has_index, has_index_named, has_name, has_number, listing_at, listing_named, repeats}
+use Rattle.wat_schema.specs.Catalog.{Listing, Name, has_index_named, has_name, has_number, listing_at, listing_named, repeats}
 use Rattle.wat_schema.specs.Definitions.{allows_index, allows_index_here, allows_index_of, allows_table, bad_index, is_definition, is_full, next_index}
 use Rattle.wat_schema.specs.Stored.{are_indexes, index_names, is_index}
 use Rattle.wat_schema.specs.Tables.{Row, Table, Tables, after_alter, after_insert, by_key, catalog_of, indexed, listing_of, table_at, with_table}

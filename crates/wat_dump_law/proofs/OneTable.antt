@@ -1,18 +1,17 @@
 -- A table is made behind others, with its indexes and its rows.
-use Rattle.std.proofs.Common.{◌≡◌, ℕ, suc, ◌+◌, ◌==◌, ◌<◌, ◌≤◌, ◌&&◌, Bool, true, false, List, [], ◌∷◌, ◌++◌, map, length, refl, sym, ap, subst, ◌∙◌, append-nil, arith}
-use Rattle.std.specs.List.{flat_map, list_all, list_any}
+use Rattle.std.proofs.Common.{◌≡◌, ℕ, suc, ◌+◌, ◌==◌, ◌<◌, ◌≤◌, ◌&&◌, true, false, List, [], ◌∷◌, ◌++◌, map, length, refl, ap, subst, ◌∙◌, append-nil, arith}
+use Rattle.std.specs.List.{list_all, list_any}
 use Rattle.std.specs.Str.{bytes_eq}
 use Rattle.std.proofs.lemmas.Bool.{and_parts, and_from, eq-eqb}
 use Rattle.wat_list.specs.Rising.{rising}
 use Rattle.wat_value.specs.declared.definition.TableDef.{TableDef}
 use Rattle.wat_value.specs.declared.definition.IndexDef.{IndexDef}
-use Rattle.wat_value.specs.declared.change.Act.{Act}
 use Rattle.wat_value.specs.Fits.{fits}
 use Rattle.wat_ast.specs.declared.statement.Statement.{Statement}
 use Rattle.wat_schema.specs.Catalog.{Name, repeats}
 use Rattle.wat_schema.specs.Stored.{are_indexes, is_index, is_whole}
-use Rattle.wat_schema.specs.Tables.{Row, Table, Tables, by_key, is_table, listing_of}
-use Rattle.wat_schema.proofs.Again.{IsGood, good_of, length-map_of, next_of}
+use Rattle.wat_schema.specs.Tables.{Table, by_key, is_table, listing_of}
+use Rattle.wat_schema.proofs.Again.{good_of, length-map_of, next_of}
 use Rattle.wat_written.specs.Written.{create_index, create_table}
 use Rattle.wat_dump.specs.Dump.{index_made, makings, row_made, table_made}
 use Rattle.wat_dump_law.specs.Anew.{numbered, of_number, with_number}

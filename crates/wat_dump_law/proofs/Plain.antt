@@ -1,5 +1,5 @@
 -- The statements of a table, which its number is not in.
-use Rattle.std.proofs.Common.{◌≡◌, ℕ, ◌+◌, ◌<◌, ◌==◌, Bool, true, false, cond, nat_le, List, [], ◌∷◌, ◌++◌, map, Option, Some, None, refl, sym, ap, ap₂, ◌∙◌, arith}
+use Rattle.std.proofs.Common.{◌≡◌, ℕ, ◌+◌, ◌<◌, ◌==◌, true, cond, nat_le, List, [], ◌∷◌, ◌++◌, map, Option, Some, None, refl, ap, ap₂, ◌∙◌, arith}
 use Rattle.std.specs.List.{find, flat_map, list_all}
 use Rattle.std.specs.Option.{option_map, option_and_then, option_to_list}
 use Rattle.std.proofs.lemmas.Bool.{and_parts, eq-eqb, ne_eqb}
@@ -16,7 +16,7 @@ use Rattle.wat_schema.proofs.Again.{good_of, next_of}
 use Rattle.wat_schema.proofs.Order.{Begins, begins}
 use Rattle.wat_written.specs.Written.{create_index, create_table, literals}
 use Rattle.wat_written_laws.proofs.Columns.{def_is}
-use Rattle.wat_dump.specs.Dump.{commit_of, dumped, index_made, makings, row_made, table_made, table_statements, written}
+use Rattle.wat_dump.specs.Dump.{commit_of, dumped, index_made, row_made, table_statements, written}
 use Rattle.wat_dump_law.specs.Anew.{numbered, numbered_from, of_number, with_number}
 
 abbrev pub row_statement : TableDef → Row → Statement

@@ -1,17 +1,16 @@
-use Rattle.std.proofs.Common.{◌≡◌, true, List, [], ◌++◌, Some, Ok, refl, sym, ap, subst, ◌∙◌, append-nil}
-use Rattle.std.specs.List.{flat_map, list_all}
+use Rattle.std.proofs.Common.{◌≡◌, List, [], ◌++◌, Some, refl, sym, ap, subst, ◌∙◌, append-nil}
+use Rattle.std.specs.List.{flat_map}
 use Rattle.wat_value.specs.declared.change.Act.{Act}
 use Rattle.wat_ast.specs.declared.statement.Statement.{Statement}
-use Rattle.wat_schema.specs.Tables.{IsTables, Tables, apply_all, catalog_of, no_tables}
+use Rattle.wat_schema.specs.Tables.{IsTables, Tables, apply_all, no_tables}
 use Rattle.wat_schema.proofs.Database.{all_acts_hold, no_tables_hold}
 use Rattle.wat_replay.specs.State.{no_lists}
 use Rattle.wat_replay.specs.Committed.{commits_of}
 use Rattle.wat_script_texts.specs.Texts.{script_text}
 use Rattle.wat_script_texts.specs.Written.{IsWritten, ends}
-use Rattle.wat_serial.specs.Script.{run}
 use Rattle.wat_translated.proofs.Named.{log_named}
-use Rattle.wat_dump.specs.Dump.{dump_text, dumped, makings}
-use Rattle.wat_dump_law.specs.Anew.{anew, are_named, numbered_from}
+use Rattle.wat_dump.specs.Dump.{dumped, makings}
+use Rattle.wat_dump_law.specs.Anew.{anew, numbered_from}
 use Rattle.wat_dump_law.proofs.All.{all_made}
 use Rattle.wat_dump_law.proofs.Names.{all_makings_named, all_names_kept}
 use Rattle.wat_dump_law.proofs.Plain.{all_plain, all_same, plain}
