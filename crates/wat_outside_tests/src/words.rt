@@ -7,6 +7,8 @@ fn words_are_a_command_or_none(rt: HostRuntime) -> Result<(), Fail> {
     let rows = [
         ("init", Some(Command::Init)),
         ("translate", Some(Command::Translate)),
+        ("dump", Some(Command::Dump)),
+        ("dump", Some(Command::Dump)),
         ("run a.sql", Some(Command::Run)),
         ("run ", Some(Command::Run)),
         ("run help", Some(Command::Run)),
@@ -16,6 +18,8 @@ fn words_are_a_command_or_none(rt: HostRuntime) -> Result<(), Fail> {
         ("play 3 a.sql", None),
         ("init --pages 15", None),
         ("init a.sql", None),
+        ("dump a.sql", None),
+        ("dump a.sql", None),
         ("init ", None),
         ("run", None),
         ("run a b", None),

@@ -1,10 +1,9 @@
 -- What the steps of a command come to.
-use Rattle.std.proofs.Common.{◌≡◌, ◌⊎◌, inl, inr, ⊎_elim, ℕ, ◌+◌, ◌≤◌, ◌<◌, ◌++◌, Bool, true, false, List, [], ◌∷◌, length, take, Option, None, Some, Result, Ok, Err, refl, sym, ◌∙◌, ap, subst, arith, if◌then◌else◌}
+use Rattle.std.proofs.Common.{◌≡◌, ◌⊎◌, inl, inr, ⊎_elim, ℕ, ◌+◌, ◌≤◌, ◌<◌, Bool, true, false, List, [], ◌∷◌, length, Option, None, Some, Result, Ok, Err, refl, sym, ap, subst, arith, if◌then◌else◌}
 use Rattle.wat_schema.specs.Tables.{Tables}
-use Rattle.std.proofs.lemmas.Bool.{cases_order, lt-ltb, le-ltb}
-use Rattle.std.specs.Prelude.{⊤, nat_lt}
+use Rattle.std.proofs.lemmas.Bool.{cases_order, lt-ltb}
+use Rattle.std.specs.Prelude.{nat_lt}
 use Rattle.std.specs.Str.Lossy.{utf8_valid_len}
-use Rattle.wat_faults.specs.Faults.{Rose, counted}
 use Rattle.wat_io.specs.Scripts.{Texts}
 use Rattle.wat_commit_log.specs.Logged.{Restarts}
 use Rattle.wat_commit_log.specs.Opening.{MayOpen}
@@ -12,22 +11,23 @@ use Rattle.wat_commit_log.specs.declared.opening.OpenWhy.{OpenWhy}
 use Rattle.wat_commit_log.specs.declared.opening.OpenWhy.TheVariants as why
 use Rattle.wat_words.specs.Commands.{alone, command_of, names_of, run_of}
 use Rattle.wat_words.specs.declared.Command.{Command}
-use Rattle.wat_words.specs.declared.Command.TheVariants.{Init, Run, Translate}
+use Rattle.wat_words.specs.declared.Command.TheVariants.{Init, Run, Translate, Dump}
 use Rattle.wat_begin.specs.Faults.{◌>>=◌}
 use Rattle.wat_begin.specs.Readings.{Reading, Holds, Missing, Failing, AreReadings, script_of, scripts_of, script_limit}
 use Rattle.wat_begin.specs.declared.fault.Fault.{Fault}
-use Rattle.wat_begin.specs.declared.fault.Fault.TheVariants.{Usage, CannotRead, TooLong, NotText, NoDatabase, Exists, Damaged, DiskFault, Memory}
+use Rattle.wat_begin.specs.declared.fault.Fault.TheVariants.{Usage, TooLong, NotText, NoDatabase, Damaged, DiskFault, Memory}
 use Rattle.wat_tool.specs.Called.{opened}
 use Rattle.wat_tool.specs.Ending.{IsBeforeDisk}
 use Rattle.wat_session.specs.Session.{IsOneScript}
 
-is_run : (dashed init run translate : Bool) (x y z : Option Command) → (if dashed then None else if init then x else if run then y else if translate then z else None) ≡ Some Run
-    → (x ≡ Some Run → ⊥) → (z ≡ Some Run → ⊥) → y ≡ Some Run
-is_run true init run translate x y z is other last = cc
-is_run false true run translate x y z is other last = absurd (other is)
-is_run false false true translate x y z is other last = is
-is_run false false false true x y z is other last = absurd (last is)
-is_run false false false false x y z is other last = cc
+is_run : (dashed init run translate dump : Bool) (x y z w : Option Command) → (if dashed then None else if init then x else if run then y else if translate then z else if dump then w else None) ≡ Some Run
+    → (x ≡ Some Run → ⊥) → (z ≡ Some Run → ⊥) → (w ≡ Some Run → ⊥) → y ≡ Some Run
+is_run true init run translate dump x y z w is other back last = cc
+is_run false true run translate dump x y z w is other back last = absurd (other is)
+is_run false false true translate dump x y z w is other back last = is
+is_run false false false true dump x y z w is other back last = absurd (back is)
+is_run false false false false true x y z w is other back last = absurd (last is)
+is_run false false false false false x y z w is other back last = cc
 
 no_init : (rest : List (List ℕ)) → alone Init rest ≡ Some Run → ⊥
 no_init [] is = cc
@@ -37,6 +37,10 @@ no_translate : (rest : List (List ℕ)) → alone Translate rest ≡ Some Run �
 no_translate [] is = cc
 no_translate (word ∷ rest) is = cc
 
+no_dump : (rest : List (List ℕ)) → alone Dump rest ≡ Some Run → ⊥
+no_dump [] is = cc
+no_dump (word ∷ rest) is = cc
+
 one_word : (rest : List (List ℕ)) → run_of rest ≡ Some Run → (name : List ℕ) × (rest ≡ name ∷ [])
 one_word [] is = cc
 one_word (name ∷ []) is = (name, refl)
@@ -45,7 +49,7 @@ one_word (name ∷ other ∷ rest) is = cc
 -- run names one script
 pub one_name : (words : List (List ℕ)) → command_of words ≡ Some Run → (name : List ℕ) × (names_of Run words ≡ name ∷ [])
 one_name [] is = cc
-one_name (word ∷ rest) is = one_word rest (is_run _ _ _ _ (alone Init rest) (run_of rest) (alone Translate rest) is (no_init rest) (no_translate rest))
+one_name (word ∷ rest) is = one_word rest (is_run _ _ _ _ _ (alone Init rest) (run_of rest) (alone Translate rest) (alone Dump rest) is (no_init rest) (no_translate rest) (no_dump rest))
 
 text_or : (answer : Result (List ℕ) Fault) (texts : List (List ℕ)) → (answer >>= λ text. Ok (text ∷ [])) ≡ Ok texts → (text : List ℕ) × (answer ≡ Ok text) × (texts ≡ text ∷ [])
 text_or (Ok text) texts is = (text, refl, cc)

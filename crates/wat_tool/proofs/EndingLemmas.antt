@@ -1,5 +1,5 @@
 -- How a call ends, step by step.
-use Rattle.std.proofs.Common.{◌≡◌, ◌⊎◌, inl, inr, ℕ, ◌≤◌, List, [], ◌∷◌, ◌++◌, take, Result, Ok, Err, Option, None, Some, refl, sym, subst, arith, append-nil, OnErr, IfErr}
+use Rattle.std.proofs.Common.{◌≡◌, ◌⊎◌, inl, inr, ℕ, ◌≤◌, List, [], ◌∷◌, ◌++◌, Result, Ok, Err, Option, Some, refl, sym, subst, arith, append-nil, OnErr, IfErr}
 use Rattle.wat_schema.specs.Tables.{Tables}
 use Rattle.wat_disk.specs.Disk.{Told}
 use Rattle.wat_faults.specs.Faults.{Rose}
@@ -12,11 +12,11 @@ use Rattle.wat_begin.specs.declared.fault.Fault.{Fault}
 use Rattle.wat_begin.specs.declared.fault.Fault.TheVariants.{Usage, CannotRead, TooLong, NotText, NoDatabase, Exists, Damaged, DiskFault, Memory}
 use Rattle.wat_tool.specs.Called.{opened}
 use Rattle.wat_tool.specs.declared.performing.Done.{Done}
-use Rattle.wat_tool.specs.declared.performing.Done.TheVariants.{Made, Played, Translated}
+use Rattle.wat_tool.specs.declared.performing.Done.TheVariants.{Made, Played, Translated, Dumped}
 use Rattle.wat_words.specs.Commands.{command_of}
 use Rattle.wat_words.specs.declared.Command.{Command}
-use Rattle.wat_words.specs.declared.Command.TheVariants.{Translate}
-use Rattle.wat_tool.specs.Ending.{Outside, Ends, EndsBy, EndsOpened, EndsPlayed, EndsRead, EndsRun, EndsTranslate, AsksFirst, IsBeforeDisk, IsUntouched, LeavesUntouched, outcome_of}
+use Rattle.wat_words.specs.declared.Command.TheVariants.{Translate, Dump}
+use Rattle.wat_tool.specs.Ending.{Outside, Ends, EndsBy, EndsDump, EndsOpened, EndsPlayed, EndsRead, EndsRun, EndsTranslate, AsksFirst, IsBeforeDisk, IsUntouched, LeavesUntouched, outcome_of}
 
 -- What follows stands, unless memory was wanted.
 pub or_memory : (fault : Fault) (P : Type 0) → P → UnlessMemory {A = Done} (Err fault) P
@@ -39,6 +39,16 @@ or_no_fault (Err fault) P h = or_memory fault P h
 pub translate_ends : (outside : Outside) (words : List (List ℕ)) (ended : Result Done Fault) → command_of words ≡ Some Translate → EndsTranslate outside ended → Ends outside words ended
 translate_ends outside words ended command ends = or_no_fault ended (EndsBy outside words (command_of words) ended)
     (subst (λ (c : Option Command). EndsBy outside words c ended) (sym command) ends)
+
+-- `dump` ends as writing the tables does.
+pub dump_ends : (outside : Outside) (words : List (List ℕ)) (ended : Result Done Fault) → command_of words ≡ Some Dump → UnlessMemory ended (EndsDump outside ended) → Ends outside words ended
+dump_ends outside words ended command ends = subst (λ (c : Option Command). UnlessMemory ended (EndsBy outside words c ended)) (sym command) ends
+
+-- A fault of `run` leaves all as it was, and one of the words or the scripts makes no call on the disk.
+pub run_leaves : (words : List (List ℕ)) (before now : Told) (ended : Result Done Fault) → OnErr ended (IsUntouched before now) → IfErr ended (λ met. IsBeforeDisk met → now.moment ≡ before.moment)
+    → IfErr ended (LeavesUntouched words before now)
+run_leaves words before now (Ok done) untouched uncalled = tt
+run_leaves words before now (Err fault) untouched uncalled = record { untouched = λ other. untouched; uncalled = uncalled }
 
 -- A fault that was met behind the first call on the disk leaves all as it was.
 pub leaves_all : (words : List (List ℕ)) (before now : Told) (ended : Result Done Fault) → IsUntouched before now → IfErr ended (λ met. IsBeforeDisk met → ⊥) → IfErr ended (LeavesUntouched words before now)
@@ -109,3 +119,4 @@ outcome_fault (Err fault) P h = h
 outcome_fault (Ok Made) P h = tt
 outcome_fault (Ok (Played session)) P h = tt
 outcome_fault (Ok (Translated text)) P h = tt
+outcome_fault (Ok (Dumped text)) P h = tt

@@ -1,6 +1,6 @@
 -- A session, seen from before the opening of its log.
-use Rattle.std.proofs.Common.{◌≡◌, ℕ, ◌+◌, ◌*◌, ◌≤◌, ◌<◌, List, [], ◌∷◌, take, length, Option, None, Some, Result, Ok, Err, refl, sym, ◌∙◌, subst, arith}
-use Rattle.wat_disk.specs.Disk.{Image, Told, Leaves, IsSynced, MakesCalls, SameFiles}
+use Rattle.std.proofs.Common.{◌≡◌, ℕ, ◌+◌, ◌*◌, List, [], ◌∷◌, take, length, Option, None, Some, Result, Ok, Err, refl, sym, ◌∙◌, subst, arith}
+use Rattle.wat_disk.specs.Disk.{Told, IsSynced, MakesCalls}
 use Rattle.wat_gate.specs.Bodies.{bodies}
 use Rattle.wat_stops.specs.Commits.{KeepsCommits}
 use Rattle.wat_stops.proofs.CommitsLemmas.{keeps_earlier}
@@ -14,16 +14,18 @@ use Rattle.wat_commit_log.specs.Opening.{MayOpen}
 use Rattle.wat_commit_log.specs.declared.opening.OpenWhy.{OpenWhy}
 use Rattle.std.specs.Prelude.{⊤}
 use Rattle.wat_one_history.proofs.OneHistory.{one_history}
+use Rattle.wat_dump.specs.Dump.{dump_text}
 use Rattle.wat_words.specs.Commands.{command_of}
 use Rattle.wat_words.specs.declared.Command.{Command}
-use Rattle.wat_words.specs.declared.Command.TheVariants.{Init, Run, Translate}
+use Rattle.wat_words.specs.declared.Command.TheVariants.{Init, Run, Translate, Dump}
 use Rattle.wat_begin.specs.Readings.{scripts_of}
 use Rattle.wat_begin.specs.declared.fault.Fault.{Fault}
 use Rattle.wat_tool.specs.Called.{made, opened}
+use Rattle.wat_tool.specs.Dumps.{EndsDumped}
 use Rattle.wat_tool.specs.Ending.{Outside, Ends, EndsBy, EndsMade, EndsPlayed, EndsRead, HasOneHistory, IsSessionOf, IsUntouched, ended, over}
 use Rattle.wat_begin.specs.declared.fault.Fault.TheVariants.{Usage}
 use Rattle.wat_tool.specs.declared.performing.Done.{Done}
-use Rattle.wat_tool.specs.declared.performing.Done.TheVariants.{Made, Played}
+use Rattle.wat_tool.specs.declared.performing.Done.TheVariants.{Made, Played, Dumped}
 use Rattle.wat_tool.proofs.CalledLemmas.{opened_tables}
 
 -- before the first transaction
@@ -112,11 +114,19 @@ made_has : (outside : Outside) (session : Session) (making : Result ⊤ Fault) �
 made_has outside session (Ok done) ends = not_made (Ok (Played session)) session _ refl ends.0
 made_has outside session (Err fault) ends = no_fault session fault _ ends
 
+not_dumped : (ended : Result Done Fault) (session : Session) (text : List ℕ) (T : Type 0) → ended ≡ Ok (Played session) → ended ≡ Ok (Dumped text) → T
+not_dumped ended session text T is dumped = cc
+
+dumped_has : (outside : Outside) (session : Session) (tables : Result Tables Fault) → EndsDumped outside.tells tables (Ok (Played session)) → HasOneHistory outside session
+dumped_has outside session (Ok tables) ends = not_dumped (Ok (Played session)) session (dump_text tables) _ refl ends.is
+dumped_has outside session (Err fault) ends = no_fault session fault _ ends
+
 by_has : (outside : Outside) (words : List (List ℕ)) (session : Session) (command : Option Command) → EndsBy outside words command (Ok (Played session)) → HasOneHistory outside session
 by_has outside words session None ends = no_fault session Usage _ ends
 by_has outside words session (Some Init) ends = made_has outside session (made ends.making) ends.is
 by_has outside words session (Some Run) ends = read_has outside session (scripts_of 1 ends.readings) ends.is
 by_has outside words session (Some Translate) ends = absurd ends
+by_has outside words session (Some Dump) ends = dumped_has outside session (opened ends.opening) ends.is
 
 -- A session that was played has one history.
 pub ends_has : (outside : Outside) (words : List (List ℕ)) (session : Session) → Ends outside words (Ok (Played session)) → HasOneHistory outside session

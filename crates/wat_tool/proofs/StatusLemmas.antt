@@ -1,10 +1,10 @@
 -- The status of an end.
-use Rattle.std.proofs.Common.{◌≡◌, ◌⊎◌, inl, inr, ⊎_elim, ℕ, ◌+◌, ◌-◌, ◌^◌, ◌≤◌, ◌<◌, min, Bool, true, false, List, [], ◌∷◌, length, take, Option, None, Some, Result, Ok, Err, refl, sym, ◌∙◌, ap, subst, arith}
+use Rattle.std.proofs.Common.{◌≡◌, ◌⊎◌, inl, inr, ⊎_elim, ℕ, ◌+◌, ◌-◌, ◌≤◌, Bool, true, false, List, [], ◌∷◌, length, Option, None, Some, Result, Ok, Err, refl, sym, ◌∙◌, ap, subst, arith}
 use Rattle.wat_schema.specs.Tables.{Tables}
 use Rattle.std.proofs.lemmas.List.Elements.{All-head, All-tail, All-take}
 use Rattle.std.specs.Prelude.{⊤, All, IfSome, unwrap_or}
 use Rattle.std.specs.Option.{option_map}
-use Rattle.wat_faults.specs.Faults.{Rose, counted}
+use Rattle.wat_faults.specs.Faults.{Rose}
 use Rattle.wat_io.specs.Scripts.{Texts}
 use Rattle.wat_commit_log.specs.Logged.{log_file, Restarts}
 use Rattle.wat_commit_log.specs.Making.{MayMake}
@@ -13,22 +13,21 @@ use Rattle.wat_commit_log.specs.declared.making.InitRefusal.{InitRefusal}
 use Rattle.wat_commit_log.specs.declared.making.InitRefusal.TheVariants as refusal
 use Rattle.wat_commit_log.specs.declared.opening.OpenWhy.{OpenWhy}
 use Rattle.wat_commit_log.specs.declared.opening.OpenWhy.TheVariants as why
-use Rattle.wat_conn.specs.declared.session.Session.{Session}
 use Rattle.wat_conn.specs.declared.answer.Reason.{Reason}
 use Rattle.wat_conn.specs.declared.answer.Reason.TheVariants as reason
 use Rattle.wat_words.specs.Commands.{command_of, names_of}
 use Rattle.wat_words.specs.declared.Command.{Command}
-use Rattle.wat_words.specs.declared.Command.TheVariants.{Init, Run, Translate}
-use Rattle.wat_begin.specs.Faults.{UnlessMemory}
-use Rattle.wat_begin.specs.Readings.{Reading, Holds, Missing, Failing, AreReadings, names_asked, script_of, scripts_of, script_limit}
+use Rattle.wat_words.specs.declared.Command.TheVariants.{Init, Run, Translate, Dump}
+use Rattle.wat_begin.specs.Readings.{Reading, Holds, Missing, Failing, AreReadings, names_asked, scripts_of}
 use Rattle.wat_begin.specs.declared.fault.Fault.{Fault}
 use Rattle.wat_begin.specs.declared.fault.Fault.TheVariants.{Usage, CannotRead, TooLong, NotText, NoDatabase, Exists, Damaged, DiskFault, Memory}
 use Rattle.wat_begin.proofs.ReadingLemmas.{is_text}
 use Rattle.wat_session.specs.Saving.{MayStop}
-use Rattle.wat_tool.specs.Called.{made, opened, names_called}
+use Rattle.wat_tool.specs.Called.{made, opened}
+use Rattle.wat_tool.specs.Dumps.{EndsDumped}
 use Rattle.wat_tool.specs.declared.performing.Done.{Done}
-use Rattle.wat_tool.specs.declared.performing.Done.TheVariants.{Made, Played, Translated}
-use Rattle.wat_tool.specs.Ending.{Outside, Ends, EndsBy, EndsMade, EndsOpened, EndsPlayed, EndsRead, EndsRun, EndsTranslate, HasText, IsWell, MetDiskFault, Serves}
+use Rattle.wat_tool.specs.declared.performing.Done.TheVariants.{Made, Played, Translated, Dumped}
+use Rattle.wat_tool.specs.Ending.{Outside, Ends, EndsBy, EndsMade, EndsPlayed, EndsRead, EndsTranslate, HasText, IsWell, MetDiskFault, Serves}
 use Rattle.wat_tool.specs.Reporting.{Output, Reports, status_of, session_status, fault_status}
 use Rattle.wat_translate.specs.Reading.{IsReadBack}
 use Rattle.wat_tool.proofs.BackLemmas.{never_fails}
@@ -72,16 +71,25 @@ no_usage_read : (outside : Outside) (readings : List Reading) (answer : Result (
 no_usage_read outside readings (Ok texts) read is = no_usage_opened outside texts is.opening is.is
 no_usage_read outside readings (Err fault) read is = let same : fault ≡ Usage = cc in no_usage_scripts 1 readings (read ∙ ap Err same)
 
+no_usage_dumped : (tells : Type 0) (opening : Result Tables OpenWhy) → EndsDumped tells (opened opening) (Err Usage) → ⊥
+no_usage_dumped tells (Ok tables) is = let e = is.is in cc
+no_usage_dumped tells (Err why.NoDatabase) is = cc
+no_usage_dumped tells (Err (why.Damaged at)) is = cc
+no_usage_dumped tells (Err why.DiskFault) is = cc
+no_usage_dumped tells (Err why.Memory) is = cc
+
 usage_by : (outside : Outside) (words : List (List ℕ)) (command : Option Command) → EndsBy outside words command (Err Usage) → command ≡ None
 usage_by outside words None is = refl
 usage_by outside words (Some Init) is = absurd (no_usage_made outside is.making is.is)
 usage_by outside words (Some Run) is = absurd (no_usage_read outside is.readings (scripts_of 1 is.readings) refl is.is)
 usage_by outside words (Some Translate) is = absurd is
+usage_by outside words (Some Dump) is = absurd (no_usage_dumped outside.tells is.opening is.is)
 
 usage_ends : (outside : Outside) (words : List (List ℕ)) (ended : Result Done Fault) (found whole : Bool) → Ends outside words ended → status_of ended found whole ≡ 1 → command_of words ≡ None
 usage_ends outside words (Ok Made) found whole ends is = absurd (omega (arith, is))
 usage_ends outside words (Ok (Played session)) found whole ends is = absurd (no_usage_session session.stop found whole is)
 usage_ends outside words (Ok (Translated text)) found whole ends is = absurd (no_usage_session None true whole is)
+usage_ends outside words (Ok (Dumped text)) found whole ends is = absurd (no_usage_session None true whole is)
 usage_ends outside words (Err fault) found whole ends is =
     let usage = usage_status fault is in
     let ends_so : Ends outside words (Err Usage) = subst (λ (f : Fault). Ends outside words (Err f)) usage ends in
@@ -101,6 +109,7 @@ met_status : (ended : Result Done Fault) (found whole : Bool) → MetDiskFault e
 met_status (Err fault) found whole met = ap fault_status met
 met_status (Ok Made) found whole met = absurd met
 met_status (Ok (Translated text)) found whole met = absurd met
+met_status (Ok (Dumped text)) found whole met = absurd met
 met_status (Ok (Played session)) found whole met = ap (λ (stop : Option Reason). session_status stop found whole) met
 
 -- A fault of the disk ends with status 4.
@@ -190,6 +199,7 @@ unfolding EndsWell
 played_well outside texts tables (Ok Made) found whole calm sink ends = absurd ends
 played_well outside texts tables (Ok (Played session)) found whole calm sink ends = calm_status session.stop found whole ends.is.leaves.reason (λ stop. calm (ends.is.leaves.disk_fault stop)) sink
 played_well outside texts tables (Ok (Translated text)) found whole calm sink ends = absurd ends
+played_well outside texts tables (Ok (Dumped text)) found whole calm sink ends = absurd ends
 played_well outside texts tables (Err fault) found whole calm sink ends = absurd ends
 
 whole_text : (whole : Bool) → (whole ≡ false → ⊥) → (session_status None true whole ≡ 0) ⊎ (session_status None true whole ≡ 7)
@@ -202,6 +212,7 @@ unfolding EndsWell
 translated_well outside text (Ok Made) found whole told back calm sink ends = absurd ends
 translated_well outside text (Ok (Played session)) found whole told back calm sink ends = absurd ends
 translated_well outside text (Ok (Translated held)) found whole told back calm sink ends = whole_text whole sink
+translated_well outside text (Ok (Dumped held)) found whole told back calm sink ends = absurd ends
 translated_well outside text (Err Usage) found whole told back calm sink ends = absurd ends
 translated_well outside text (Err (CannotRead i)) found whole told back calm sink ends = absurd ends
 translated_well outside text (Err (TooLong i)) found whole told back calm sink ends = absurd ends
@@ -221,6 +232,16 @@ opened_well outside texts (Err (why.Damaged at)) ended found whole tables told r
 opened_well outside texts (Err why.DiskFault) ended found whole tables told restarts calm sink may ends = absurd (calm may)
 opened_well outside texts (Err why.Memory) ended found whole tables told restarts calm sink may ends = wants_memory ended found whole ends
 
+dumped_well : (outside : Outside) (opening : Result Tables OpenWhy) (ended : Result Done Fault) (found whole : Bool) (tables : Tables) → outside.tells →
+    Restarts (outside.disk_before.content log_file) tables → ¬ Rose outside.disk_before.faults outside.disk.faults → (whole ≡ false → ⊥) →
+    MayOpen outside.tells (outside.disk_before.content log_file) (Rose outside.disk_before.faults outside.disk.faults) opening → EndsDumped outside.tells (opened opening) ended → EndsWell ended found whole
+unfolding EndsWell
+dumped_well outside (Ok found_tables) ended found whole tables told restarts calm sink may ends = subst (λ (e : Result Done Fault). EndsWell e found whole) (sym ends.is) (whole_text whole sink)
+dumped_well outside (Err why.NoDatabase) ended found whole tables told restarts calm sink may ends = absurd (omega (arith, restarts.logged.whole.there, ap length (may told)))
+dumped_well outside (Err (why.Damaged at)) ended found whole tables told restarts calm sink may ends = absurd ((may told).none tables restarts)
+dumped_well outside (Err why.DiskFault) ended found whole tables told restarts calm sink may ends = absurd (calm may)
+dumped_well outside (Err why.Memory) ended found whole tables told restarts calm sink may ends = wants_memory ended found whole ends
+
 read_well : (outside : Outside) (answer : Result (List (List ℕ)) Fault) (texts : List (List ℕ)) (ended : Result Done Fault) (found whole : Bool) (tables : Tables) → answer ≡ Ok texts → outside.tells →
     Restarts (outside.disk_before.content log_file) tables → ¬ Rose outside.disk_before.faults outside.disk.faults → (whole ≡ false → ⊥) → EndsRead outside answer ended → EndsWell ended found whole
 read_well outside (Ok found_texts) texts ended found whole tables read told restarts calm sink ends = opened_well outside found_texts ends.opening ended found whole tables told restarts calm sink ends.may_open ends.is
@@ -231,6 +252,7 @@ by_well : (outside : Outside) (words : List (List ℕ)) (command : Command) (end
     EndsBy outside words (Some command) ended → EndsWell ended found whole
 by_well outside words Init ended found whole texts told have tells log script_faults calm sink ends = init_well outside ends.making ended found whole tells log calm ends.may_make ends.is
 by_well outside words Translate ended found whole texts told have tells log script_faults calm sink ends = translated_well outside log.0 ended found whole tells log.1 calm sink ends
+by_well outside words Dump ended found whole texts told have tells log script_faults calm sink ends = dumped_well outside ends.opening ended found whole log.0 tells log.1 calm sink ends.may_open ends.is
 by_well outside words Run ended found whole texts told have tells log script_faults calm sink ends =
     let names = names_asked (names_of Run words) (scripts_of 1 ends.readings) in
     let are = subst (λ (t : Option Texts). AreReadings t outside.script_faults_before outside.script_faults names ends.readings) told ends.may_read in

@@ -19,16 +19,17 @@ use Rattle.wat_session.specs.Session.{IsSession, Setting}
 use Rattle.wat_one_history.specs.OneHistory.{IsOneHistory}
 use Rattle.wat_words.specs.Commands.{command_of, names_of}
 use Rattle.wat_words.specs.declared.Command.{Command}
-use Rattle.wat_words.specs.declared.Command.TheVariants.{Init, Run, Translate}
+use Rattle.wat_words.specs.declared.Command.TheVariants.{Init, Run, Translate, Dump}
 use Rattle.wat_begin.specs.Faults.{UnlessMemory}
 use Rattle.wat_begin.specs.Readings.{Reading, AreReadings, names_asked, script_limit, scripts_of}
 use Rattle.wat_begin.specs.declared.fault.Fault.{Fault}
 use Rattle.wat_begin.specs.declared.fault.Fault.TheVariants as why
 use Rattle.wat_translate.specs.Reading.{IsReadBack}
 use Rattle.wat_tool.specs.Called.{made, opened, names_called}
+use Rattle.wat_tool.specs.Dumps.{IsDump}
 use Rattle.wat_tool.specs.ReadingBack.{MayReadBack}
 use Rattle.wat_tool.specs.declared.performing.Done.{Done}
-use Rattle.wat_tool.specs.declared.performing.Done.TheVariants.{Made, Played, Translated}
+use Rattle.wat_tool.specs.declared.performing.Done.TheVariants.{Made, Played, Translated, Dumped}
 
 -- The outside: what it holds and was asked, as far as it tells, and its counts of faults, when the call began and when it ended.
 pub record Outside : Type 1 where
@@ -89,6 +90,7 @@ abbrev pub IsPlayed : Result Done Fault → (Session → Type 0) → Type 0
 IsPlayed (Ok (Played session)) P = P session
 IsPlayed (Ok Made) P = ⊥
 IsPlayed (Ok (Translated text)) P = ⊥
+IsPlayed (Ok (Dumped text)) P = ⊥
 IsPlayed (Err fault) P = ⊥
 
 -- these scripts were played over the tables of the log
@@ -119,23 +121,29 @@ pub record EndsRun (outside : Outside) (names : List (List ℕ)) (ended : Result
 abbrev pub EndsTranslate : Outside → Result Done Fault → Type 0
 EndsTranslate outside ended = MayReadBack outside.tells outside.disk_before.content (Rose outside.disk_before.faults outside.disk.faults) ended
 
+-- `dump`: opening the log answered in some way that it may, and the call ended by that: with the text of the tables, where there are any.
+abbrev pub EndsDump : Outside → Result Done Fault → Type 0
+EndsDump outside ended = IsDump outside.tells (outside.disk_before.content log_file) (Rose outside.disk_before.faults outside.disk.faults) ended
+
 -- Words that are no command end with that, and a command as it does.
 abbrev pub EndsBy : Outside → List (List ℕ) → Option Command → Result Done Fault → Type 0
 EndsBy outside words None ended = ended ≡ Err why.Usage
 EndsBy outside words (Some Init) ended = EndsInit outside ended
 EndsBy outside words (Some Run) ended = EndsRun outside (names_of Run words) ended
 EndsBy outside words (Some Translate) ended = EndsTranslate outside ended
+EndsBy outside words (Some Dump) ended = EndsDump outside ended
 
 -- The call ended as the words call for, or by want of memory.
 abbrev pub Ends : Outside → List (List ℕ) → Result Done Fault → Type 0
 Ends outside words ended = UnlessMemory ended (EndsBy outside words (command_of words) ended)
 
--- how the call ended: with a fault, with the database that `init` made, with the session, or with the text of the log
+-- how the call ended: with a fault, with the database that `init` made, with the session, or with the text of the log or of the tables
 abbrev pub ended : Result Command Fault → Session → List ℕ → Result Done Fault
 ended (Err fault) session text = Err fault
 ended (Ok Init) session text = Ok Made
 ended (Ok Run) session text = Ok (Played session)
 ended (Ok Translate) session text = Ok (Translated text)
+ended (Ok Dump) session text = Ok (Dumped text)
 
 -- the command that was done, or why none was
 abbrev pub outcome_of : Result Done Fault → Result Command Fault
@@ -143,6 +151,7 @@ outcome_of (Err fault) = Err fault
 outcome_of (Ok Made) = Ok Init
 outcome_of (Ok (Played session)) = Ok Run
 outcome_of (Ok (Translated text)) = Ok Translate
+outcome_of (Ok (Dumped text)) = Ok Dump
 
 -- the call met a fault of the disk
 abbrev pub MetDiskFault : Result Done Fault → Type 0
@@ -150,6 +159,7 @@ MetDiskFault (Err fault) = fault ≡ why.DiskFault
 MetDiskFault (Ok Made) = ⊥
 MetDiskFault (Ok (Played session)) = session.stop ≡ Some DiskFault
 MetDiskFault (Ok (Translated text)) = ⊥
+MetDiskFault (Ok (Dumped text)) = ⊥
 
 -- Scripts were asked for the first few of these names, in order, each once.
 pub record AsksFirst (names before now : List (List ℕ)) : Type 0 where
@@ -193,11 +203,12 @@ pub record HasText (texts : Texts) (name : List ℕ) : Type 0 where
   pub short : length text ≤ script_limit
   pub is_text : utf8_valid_len text ≡ length text
 
--- The log is as the command needs it: empty for `init`, one that restart reads for `run`, and one that is read back for `translate`.
+-- The log is as the command needs it: empty for `init`, one that restart reads for `run` and `dump`, and one that is read back for `translate`.
 abbrev pub Serves : Command → List ℕ → Type 0
 Serves Init log = log ≡ []
 Serves Run log = (tables : Tables) × Restarts log tables
 Serves Translate log = (text : List ℕ) × IsReadBack log text
+Serves Dump log = (tables : Tables) × Restarts log tables
 
 -- The words are a command, its scripts are texts, the log is as it needs it, and neither scripts nor disk failed.
 pub record IsWell (outside : Outside) (words : List (List ℕ)) : Type 0 where

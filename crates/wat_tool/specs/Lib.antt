@@ -1,4 +1,5 @@
 pub mod Called
+pub mod Dumps
 pub mod Ending
 pub mod Finishes
 pub mod ReadingBack

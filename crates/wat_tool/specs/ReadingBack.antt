@@ -13,7 +13,7 @@ use Rattle.wat_translate.specs.Reading.{AreEmpty, FailsAt, IsReadBack}
 use Rattle.wat_begin.specs.declared.fault.Fault.{Fault}
 use Rattle.wat_begin.specs.declared.fault.Fault.TheVariants.{NoDatabase, Damaged, DiskFault, Memory}
 use Rattle.wat_tool.specs.declared.performing.Done.{Done}
-use Rattle.wat_tool.specs.declared.performing.Done.TheVariants.{Made, Played, Translated}
+use Rattle.wat_tool.specs.declared.performing.Done.TheVariants.{Made, Played, Translated, Dumped}
 
 -- The text is that of the transactions which the log has committed. Run alone on an empty database, it gives the tables to which the log restarts.
 pub record IsTranslated (content text : List ℕ) : Type 0 where
@@ -30,6 +30,7 @@ abbrev pub MayReadBack : Type 0 → Image → Type 0 → Result Done Fault → T
 MayReadBack tells files rose (Ok Made) = ⊥
 MayReadBack tells files rose (Ok (Played session)) = ⊥
 MayReadBack tells files rose (Ok (Translated text)) = tells → IsTranslated (files log_file) text
+MayReadBack tells files rose (Ok (Dumped text)) = ⊥
 MayReadBack tells files rose (Err NoDatabase) = tells → AreEmpty files
 MayReadBack tells files rose (Err (Damaged at)) = tells → IsDamaged files at
 MayReadBack tells files rose (Err DiskFault) = rose

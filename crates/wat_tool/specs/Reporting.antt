@@ -2,14 +2,13 @@
 use Rattle.std.specs.Prelude.{◌≡◌, ℕ, Bool, true, false, List, [], ◌++◌, codes, decimal, Option, None, Some, Result, Ok, Err}
 use Rattle.wat_faults.specs.Faults.{Rose}
 use Rattle.wat_io.specs.Sink.{Sends}
-use Rattle.wat_conn.specs.declared.session.Session.{Session}
 use Rattle.wat_conn.specs.declared.answer.Reason.{Reason}
 use Rattle.wat_conn.specs.declared.answer.Reason.TheVariants as reason
 use Rattle.wat_print.specs.Printed.{printed}
 use Rattle.wat_begin.specs.declared.fault.Fault.{Fault}
 use Rattle.wat_begin.specs.declared.fault.Fault.TheVariants.{Usage, CannotRead, TooLong, NotText, NoDatabase, Exists, Damaged, DiskFault, Memory}
 use Rattle.wat_tool.specs.declared.performing.Done.{Done}
-use Rattle.wat_tool.specs.declared.performing.Done.TheVariants.{Made, Played, Translated}
+use Rattle.wat_tool.specs.declared.performing.Done.TheVariants.{Made, Played, Translated, Dumped}
 
 -- what is written of a fault
 abbrev pub fault_line : Fault → List ℕ
@@ -40,13 +39,14 @@ reason_status reason.DiskFault = 4
 reason_status (reason.PageLimit count limit) = 6
 reason_status reason.Memory = 7
 
--- what is written: nothing of a database that was made, the text of a log that was read back, and want of memory where printing the session finds none
+-- what is written: nothing of a database that was made, the text of a log that was read back or of tables, and want of memory where printing the session finds none
 abbrev pub text_of : Result Done Fault → Bool → List ℕ
 text_of (Err fault) found = fault_line fault
 text_of (Ok Made) found = []
 text_of (Ok (Played session)) true = printed session
 text_of (Ok (Played session)) false = fault_line Memory
 text_of (Ok (Translated text)) found = text
+text_of (Ok (Dumped text)) found = text
 
 -- the status of a stop, of printing that found no memory, of a text that went out in part, or 0
 abbrev pub session_status : Option Reason → Bool → Bool → ℕ
@@ -60,6 +60,7 @@ status_of (Err fault) found whole = fault_status fault
 status_of (Ok Made) found whole = 0
 status_of (Ok (Played session)) found whole = session_status session.stop found whole
 status_of (Ok (Translated text)) found whole = session_status None true whole
+status_of (Ok (Dumped text)) found whole = session_status None true whole
 
 -- The output: what it took, as far as it tells, and its count of faults, when the call began and when it ended.
 pub record Output : Type 0 where

@@ -13,13 +13,16 @@ ghost use Rattle.wat_tool.specs.Called.{made, names_called, opened};
 ghost use Rattle.wat_tool.specs.Ending.{AsksFirst, ChangesFirstByte, Ends, EndsRun, IsBeforeDisk, IsMade, IsUntouched, LeavesUntouched, MetDiskFault};
 ghost use Rattle.wat_session.specs.Session.{IsOneScript, IsSession};
 ghost use Rattle.wat_tool.specs.Steps.{tables_of};
+ghost use Rattle.wat_tool.specs.Dumps.{IsDump};
 ghost use Rattle.wat_tool.specs.ReadingBack.{MayReadBack};
 
 use std::alloc::Global;
 use wat_begin::{Fault, read_scripts};
-use wat_commit_log::{InitRefusal, OpenWhy, Opened, init, open};
+use wat_commit_log::{InitRefusal, OpenWhy, Opened, init, open, restart_laws};
 use wat_conn::{ScriptList, Session};
 use wat_disk::Disk;
+use wat_dump::dump;
+use wat_dump_law::dump_law;
 use wat_io::Scripts;
 use wat_list::Items;
 use wat_session::play;
@@ -35,6 +38,8 @@ pub enum Done {
     Played(Session),
     /// The log was read back as this text.
     Translated(Items<u8>),
+    /// The tables were written as this text.
+    Dumped(Items<u8>),
 }
 
 /// Makes a database.
@@ -159,6 +164,25 @@ fn translate_log<D: Disk>(alloc: Global, disk: &mut D) -> Result<Done, Fault>
     }
 }
 
+/// Opens the log as a session does, and writes its tables as SQL.
+fn dump_tables<D: Disk>(alloc: Global, disk: &mut D) -> Result<Done, Fault>
+    ensures ends { UnlessMemory result (IsDump D.tells_content ((D.told disk.old).content log_file) (Rose (D.told disk.old).faults (D.told disk.new).faults) result) }
+    ensures untouched { IsUntouched (D.told disk.old) (D.told disk.new) }
+    ensures on_disk { IfErr result (λ met. IsBeforeDisk met → ⊥) }
+    ensures disk_faults { ¬ MetDiskFault result → (D.told disk.new).faults ≡ (D.told disk.old).faults }
+{
+    restart_laws();
+    dump_law();
+    let opened = match open_log(alloc, disk) {
+        Ok(opened) => opened,
+        Err(fault) => return Err(fault),
+    };
+    match dump(alloc, &opened.tables) {
+        Ok(text) => Ok(Done::Dumped(Items::from_vec(text))),
+        Err(_) => Err(Fault::Memory),
+    }
+}
+
 /// Does what the words call for.
 pub fn perform<L: Scripts, D: Disk>(
     alloc: Global,
@@ -190,6 +214,7 @@ pub fn perform<L: Scripts, D: Disk>(
         },
         Ok(Some(Command::Run)) => run_script(alloc, words, scripts, disk),
         Ok(Some(Command::Translate)) => translate_log(alloc, disk),
+        Ok(Some(Command::Dump)) => dump_tables(alloc, disk),
         Ok(None) => Err(Fault::Usage),
         Err(_) => Err(Fault::Memory),
     }

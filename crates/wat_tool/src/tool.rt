@@ -25,7 +25,7 @@ pub struct Finish<D> {
     pub disk: D,
     /// The session of `run`; one in which nothing was asked where none began.
     pub session: Session,
-    /// The text of `translate`; empty where no log was read back.
+    /// The text of `translate` or `dump`; empty where nothing was written as SQL.
     pub text: Items<u8>,
 }
 
@@ -35,7 +35,7 @@ fn finished<D>(alloc: Global, end: Result<Done, Fault>, status: u8, disk: D) -> 
     ensures disk { result.disk ≡ disk }
     ensures ended { ended result.outcome result.session result.text ≡ end }
     ensures nothing_asked { result.outcome ≢ Ok Command.Run → IsNoSession result.session }
-    ensures nothing_read_back { result.outcome ≢ Ok Command.Translate → result.text ≡ [] }
+    ensures no_text { result.outcome ≢ Ok Command.Translate → result.outcome ≢ Ok Command.Dump → result.text ≡ [] }
     ensures outcome { result.outcome ≡ outcome_of end }
 {
     let none = Items::new(alloc);
@@ -43,6 +43,7 @@ fn finished<D>(alloc: Global, end: Result<Done, Fault>, status: u8, disk: D) -> 
         Ok(Done::Made) => (Ok(Command::Init), Session::new(alloc), none),
         Ok(Done::Played(session)) => (Ok(Command::Run), session, none),
         Ok(Done::Translated(text)) => (Ok(Command::Translate), Session::new(alloc), text),
+        Ok(Done::Dumped(text)) => (Ok(Command::Dump), Session::new(alloc), text),
         Err(fault) => (Err(fault), Session::new(alloc), none),
     };
     Finish {

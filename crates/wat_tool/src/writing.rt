@@ -140,7 +140,7 @@ pub fn report<K: Sink>(alloc: Global, ended: &Result<Done, Fault>, out: &mut K) 
             fault_status(*fault)
         }
         Ok(Done::Made) => 0,
-        Ok(Done::Translated(text)) => {
+        Ok(Done::Translated(text) | Done::Dumped(text)) => {
             let whole = write_all(out, text.as_slice()).is_ok();
             session_status(None, true, whole)
         }

@@ -7,6 +7,8 @@ mod answers;
 #[cfg(test)]
 mod calls;
 #[cfg(test)]
+mod dumping;
+#[cfg(test)]
 mod faults;
 #[cfg(test)]
 mod limits;

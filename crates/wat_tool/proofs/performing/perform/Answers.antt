@@ -1,13 +1,11 @@
-use Rattle.std.proofs.Common.{◌≡◌, [], ℕ, List, Ok, Err, None, Some, Option, Result, refl, sym, ap, subst, map, string_bytes}
+use Rattle.std.proofs.Common.{◌≡◌, Ok, Err, None, Some, Option, Result, refl, sym, subst, map, string_bytes}
 use Rattle.std.specs.Prelude.{⊤}
-use Rattle.wat_disk.specs.Disk.{Told}
-use Rattle.wat_words.specs.Commands.{command_of, names_of}
+use Rattle.wat_words.specs.Commands.{command_of}
 use Rattle.wat_words.specs.declared.Command.{Command}
-use Rattle.wat_words.specs.declared.Command.TheVariants.{Init, Run, Translate}
+use Rattle.wat_words.specs.declared.Command.TheVariants.{Init, Translate, Dump}
 use Rattle.wat_begin.specs.declared.fault.Fault.{Fault}
-use Rattle.wat_tool.proofs.EndingLemmas.{asks_none, leaves_all, or_memory, translate_ends}
+use Rattle.wat_tool.proofs.EndingLemmas.{asks_none, dump_ends, leaves_all, or_memory, run_leaves, translate_ends}
 use Rattle.wat_tool.proofs.UntouchedLemmas.{first_byte_here, untouched_here}
-use Rattle.wat_tool.specs.declared.performing.Done.{Done}
 use Rattle.wat_tool.specs.declared.performing.Done.TheVariants.{Made}
 use Rattle.wat_tool.specs.Called.{names_called}
 use Rattle.wat_tool.specs.Ending.{Outside, EndsBy, EndsMade}
@@ -88,6 +86,34 @@ returns-in-Ok-Some-Translate-clause-asks g c = asks_none (names_called (map stri
 pub returns-in-Ok-Some-Translate-clause-untouched : goal.returns-in-Ok-Some-Translate-clause-untouched
 returns-in-Ok-Some-Translate-clause-untouched g c =
     leaves_all (map string_bytes c.args.words.now) (g.D.Disk.told c.args.disk.now) (g.D.Disk.told c.translate_log.new.disk) c.translate_log.result c.translate_log.ensures.untouched c.translate_log.ensures.on_disk
+
+pub returns-in-Ok-Some-Dump-clause-ends : goal.returns-in-Ok-Some-Dump-clause-ends
+returns-in-Ok-Some-Dump-clause-ends g c =
+    let words = map string_bytes c.args.words.now in
+    let command : command_of words ≡ Some Dump =
+    let read = c.in-Ok-Some-Dump.ensures.command in let some = c.in-Ok-Some-Dump.field-0-is in let dump = c.in-Ok-Some-Dump.field-0-0-is in cc in
+    let outside : Outside = record {
+      texts = g.L.Scripts.texts c.args.scripts.now;
+      asked_before = g.L.Scripts.asked c.args.scripts.now;
+      asked = g.L.Scripts.asked c.args.scripts.now;
+      script_faults_before = g.L.Scripts.faults c.args.scripts.now;
+      script_faults = g.L.Scripts.faults c.args.scripts.now;
+      tells = g.D.Disk.tells_content;
+      disk_before = g.D.Disk.told c.args.disk.now;
+      disk = g.D.Disk.told c.dump_tables.new.disk;
+    } in
+    dump_ends outside words c.dump_tables.result command c.dump_tables.ensures.ends
+
+pub returns-in-Ok-Some-Dump-clause-asks : goal.returns-in-Ok-Some-Dump-clause-asks
+returns-in-Ok-Some-Dump-clause-asks g c = asks_none (names_called (map string_bytes c.args.words.now)) (g.L.Scripts.asked c.args.scripts.now)
+
+pub returns-in-Ok-Some-Dump-clause-untouched : goal.returns-in-Ok-Some-Dump-clause-untouched
+returns-in-Ok-Some-Dump-clause-untouched g c =
+    leaves_all (map string_bytes c.args.words.now) (g.D.Disk.told c.args.disk.now) (g.D.Disk.told c.dump_tables.new.disk) c.dump_tables.result c.dump_tables.ensures.untouched c.dump_tables.ensures.on_disk
+
+pub returns-in-Ok-Some-Run-clause-untouched : goal.returns-in-Ok-Some-Run-clause-untouched
+returns-in-Ok-Some-Run-clause-untouched g c =
+    run_leaves (map string_bytes c.args.words.now) (g.D.Disk.told c.args.disk.now) (g.D.Disk.told c.run_script.new.disk) c.run_script.result c.run_script.ensures.untouched c.run_script.ensures.uncalled
 
 pub returns-in-Ok-None-clause-ends : goal.returns-in-Ok-None-clause-ends
 returns-in-Ok-None-clause-ends g c =

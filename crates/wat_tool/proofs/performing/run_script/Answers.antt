@@ -1,8 +1,7 @@
-use Rattle.std.proofs.Common.{◌≡◌, ◌≤◌, ◌++◌, [], ℕ, List, Ok, Err, Some, Result, length, arith, refl, sym, map, string_bytes, ap, ◌∙◌, subst}
-use Rattle.wat_disk.specs.Disk.{Told}
+use Rattle.std.proofs.Common.{◌≡◌, ◌++◌, ℕ, List, Ok, Err, Result, length, refl, sym, map, string_bytes, ap, ◌∙◌, subst}
 use Rattle.wat_faults.specs.Faults.{Rose}
 use Rattle.wat_gate.specs.Bodies.{bodies}
-use Rattle.wat_gate.specs.GateLog.{file_of, frames_of}
+use Rattle.wat_gate.specs.GateLog.{frames_of}
 use Rattle.wat_commit_log.specs.Logged.{log_file}
 use Rattle.wat_words.specs.Commands.{names_of}
 use Rattle.wat_words.specs.declared.Command.TheVariants.{Run}
@@ -12,7 +11,7 @@ use Rattle.wat_begin.specs.declared.fault.Fault.{Fault}
 use Rattle.wat_tool.proofs.CalledLemmas.{MayOpen-later, one_script, opened_on_disk, opened_tables}
 use Rattle.wat_tool.proofs.EndingLemmas.{memory_ends, opened_ends, or_memory, rose_on, run_ends, unless_both}
 use Rattle.wat_tool.proofs.SessionLemmas.{session_of}
-use Rattle.wat_tool.proofs.UntouchedLemmas.{untouched_here, untouched_on}
+use Rattle.wat_tool.proofs.UntouchedLemmas.{untouched_here}
 use Rattle.wat_tool.specs.declared.performing.Done.{Done}
 use Rattle.wat_tool.specs.declared.performing.Done.TheVariants.{Played}
 use Rattle.wat_tool.specs.Ending.{Outside, EndsRun, IsUntouched}

@@ -1,4 +1,4 @@
-use Rattle.std.proofs.Common.{◌≡◌, ℕ, List, Result, map, string_bytes, sym, subst, ap}
+use Rattle.std.proofs.Common.{ℕ, Result, map, string_bytes, sym, subst}
 use Rattle.wat_disk.specs.Disk.{Told}
 use Rattle.wat_words.specs.declared.Command.{Command}
 use Rattle.wat_begin.specs.declared.fault.Fault.{Fault}
@@ -42,7 +42,7 @@ returns g c =
       ends = subst (Ends (outside now) words) (sym c.finished.ensures.ended) done.ends;
       asks = done.asks;
       nothing_asked = c.finished.ensures.nothing_asked;
-      nothing_read_back = c.finished.ensures.nothing_read_back;
+      no_text = c.finished.ensures.no_text;
       read_back = gives_back (now.content 2) c.translated_law.ensures.runs;
       history = outcome_has (outside now) words left.outcome left.session left.text (subst (Ends (outside now) words) (sym c.finished.ensures.ended) done.ends);
       untouched = subst (λ (o : Result Command Fault). IfErr o (LeavesUntouched words (g.D.Disk.told c.args.disk) now)) (sym c.finished.ensures.outcome) (outcome_fault end (LeavesUntouched words (g.D.Disk.told c.args.disk) now) done.untouched);

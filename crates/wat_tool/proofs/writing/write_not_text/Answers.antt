@@ -1,4 +1,4 @@
-use Rattle.std.proofs.Common.{◌≡◌, ℕ, ◌++◌, decimal, codes, append_assoc, refl}
+use Rattle.std.proofs.Common.{◌≡◌, ℕ, ◌++◌, decimal, codes, append_assoc}
 use Rattle.std.proofs.KnownBytes.{Appends-trans}
 use Rattle.wat_tool.specs.Reporting.{fault_line}
 use Rattle.wat_begin.specs.declared.fault.Fault.TheVariants.{NotText}
