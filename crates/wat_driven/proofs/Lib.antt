@@ -1,1 +1,3 @@
+pub mod ChangeLemmas
 pub mod DrivenLemmas
+pub mod EndingLemmas
