@@ -4,5 +4,5 @@
 mod laws;
 mod source;
 
-pub use laws::change_law;
+pub use laws::{change_law, made_law};
 pub use source::IndexedTables;

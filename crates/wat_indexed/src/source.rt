@@ -74,6 +74,18 @@ impl IndexedTables {
         &self.tables
     }
 
+    /// The tables alone.
+    pub fn into_tables(self) -> Tables
+        ensures { result ≡ self.tables }
+    {
+        let IndexedTables {
+            alloc: _,
+            tables,
+            indexes: _,
+        } = self;
+        tables
+    }
+
     /// Makes a change of a row.
     pub fn change(&mut self, change: &Change) -> Result<(), NoMemory>
         ensures { OnOk result (self.new ≡ after_change change.now self.old) }
