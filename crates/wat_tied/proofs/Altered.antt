@@ -26,7 +26,7 @@ use Rattle.wat_scans.specs.Look.{look, IsOf}
 use Rattle.wat_scans.specs.Running.{Run}
 use Rattle.wat_steps.specs.State.{ConnectionState, CoreState, schema_of}
 use Rattle.wat_steps.specs.Statements.{answer_saying, altered}
-use Rattle.wat_tied.specs.Tied.{AreStanding, stood_in, made_in, standing_in, GoesWith, IsIdle, IsInside, IsAbsent, Ghost, Ties, IsTied}
+use Rattle.wat_tied.specs.Tied.{AreStanding, stood_in, made_in, standing_in, GoesWith, IsIdle, IsInside, IsAbsent, MeetsWith, Ghost, Ties, IsTied}
 use Rattle.wat_tied.proofs.Alike.{alike}
 use Rattle.wat_tied.proofs.Renewed.{has_work}
 use Rattle.wat_tied.proofs.Answered.{done, done_here, done_there, part_of}
@@ -146,5 +146,6 @@ module _ (e : CoreState) (g : Ghost) (ties : Ties e g) (c : ℕ) (going : e.stop
       serial = serial;
       outside = λ d out. absent_then d (λ i. out (record { from_one = i.from_one; within = i.within }));
       works = λ on d. subst (λ (z : Option Run). GoesWith (catalog_of t) (after.connections d) z []) (sym (rests_then d)) refl;
+      meets = λ on d. subst (MeetsWith then_law d) (sym (rests_then d)) tt;
     };
   }

@@ -35,7 +35,7 @@ use Rattle.wat_tied.proofs.Begun.{here}
 use Rattle.wat_tied.proofs.Entered.{no_work}
 use Rattle.wat_tied.proofs.Granted.{there}
 use Rattle.wat_tied.proofs.Keys as keys
-use Rattle.wat_tied.proofs.Renewed.{renewed, renewal, has_work}
+use Rattle.wat_tied.proofs.Renewed.{rows_stay, renewed, renewal, has_work}
 use Rattle.wat_tied.proofs.Undone.{undo_items, IsUndone, undo_all}
 
 abbrev back_act : Change → Act
@@ -137,10 +137,12 @@ module _ (e : CoreState) (g : Ghost) (ties : Ties e g) (c : ℕ) (going : e.stop
           here = done_here c mid before span more answer acts (here u c (record (u.connections c) { transaction = Some then_open }) ∙ ap (λ (f : ℕ → ConnectionState). record (f c) { transaction = Some then_open }) connections) first;
           there = λ d ne. done_there c d mid answer acts ne ∙ (there u c (record (u.connections c) { transaction = Some then_open }) d ne ∙ ap (λ (f : ℕ → ConnectionState). f d) connections);
           others = b.others;
+          rows = λ d ne. rows_stay g.state t ties.kept b.kept b.base d (b.others d ne);
           log = b.log ∙ ap (λ z. undo_items cat gone ++ z) (ties.log c ∙ ap (λ z. z ++ items_in (g.entries c)) (no_work e g ties c going resting));
           standing = subst (λ z. AreStanding cat z (t.conns c).standing) (ap reverse (sym (append-nil (take n standing)))) b.standing;
           idle = tt;
           works = λ on. refl;
+          meets = λ on. tt;
           parts = λ p m. ⊎_elim (λ (h : recorded ≡ p). subst (IsDetermined cat) h (determined (λ ch has. all.formed ch (has_left ch gone (reverse (take n standing)) has)))) (λ (h : Has p (g.entries c)). ties.parts c p h) m;
           serial = subst (λ (z : CoreState). Serial 3 z.base g.history z.committed) b.others_same ties.serial;
         });

@@ -8,7 +8,7 @@ use Rattle.wat_isolation.specs.Sql.{sql}
 use Rattle.wat_isolation.proofs.Whole.{all_hold}
 use Rattle.wat_scans.specs.Look.{look, IsOf}
 use Rattle.wat_steps.specs.Fresh.{connection_with, script_of, fresh}
-use Rattle.wat_tied.specs.Tied.{AreStanding, standing_in, IsIdle, GoesWith, IsInside, IsAbsent, IsTied}
+use Rattle.wat_tied.specs.Tied.{AreStanding, standing_in, IsIdle, GoesWith, IsInside, IsAbsent, MeetsWith, IsTied}
 
 -- of a connection with nothing done
 stands : (base : Tables) (script : Option (List ℕ)) → AreStanding (catalog_of base) (standing_in (connection_with script).transaction (connection_with script).work) []
@@ -22,6 +22,10 @@ is_idle (Some script) = (refl, refl, refl)
 goes : (base : Tables) (script : Option (List ℕ)) → GoesWith (catalog_of base) (connection_with script) (connection_with script).work []
 goes base None = refl
 goes base (Some script) = refl
+
+meets : (s : law.State sql) (c : ℕ) (script : Option (List ℕ)) → MeetsWith s c (connection_with script).work
+meets s c None = tt
+meets s c (Some script) = tt
 
 none_past : (scripts : List (List ℕ)) (c : ℕ) → (c < length scripts → ⊥) → slice_get scripts c ≡ None
 none_past [] c out = refl
@@ -50,6 +54,7 @@ begins base scripts tables = record {
     serial = refl;
     outside = λ c out. nothing base scripts c out;
     works = λ going c. goes base (script_of scripts c);
+    meets = λ going c. meets s c (script_of scripts c);
   };
 }
   where

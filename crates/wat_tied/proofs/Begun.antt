@@ -4,15 +4,22 @@ use Rattle.std.proofs.lemmas.Bool.{eq-eqb}
 use Rattle.wat_ast.specs.declared.statement.Statement.{Statement}
 use Rattle.wat_parse.specs.declared.script.Span.{Span}
 use Rattle.wat_parse.specs.Parsing.{parsed_at}
+use Rattle.wat_schema.specs.Catalog.{Catalog}
+use Rattle.wat_isolation.specs.Machine as law
+use Rattle.wat_isolation.specs.Sql.{sql}
+use Rattle.wat_plan.specs.Scanned.{ScansEach}
 use Rattle.wat_rules.specs.Check.{check}
 use Rattle.wat_scans.specs.Running.{Run, begin, task_of}
+use Rattle.wat_scans.specs.Scans.{begun as begun_scans}
 use Rattle.wat_scans.specs.Told.{IsStepped}
 use Rattle.wat_scans.proofs.Going.{begin_goes}
 use Rattle.wat_scans.proofs.Planned.{task_planned}
 use Rattle.wat_steps.specs.State.{OpenTransaction, ConnectionState, CoreState, schema_of, with_connection}
 use Rattle.wat_steps.specs.Answering.{IsSame, no_changes, opened, transaction_of}
 use Rattle.wat_steps.specs.Statements.{begun}
-use Rattle.wat_tied.specs.Tied.{AreStanding, standing_in, GoesWith, IsInside, Ghost, Ties, IsTied}
+use Rattle.wat_tied.specs.Tied.{AreStanding, standing_in, GoesWith, IsInside, MeetsWith, Ghost, Ties, IsTied}
+use Rattle.wat_tied.proofs.Aims.{begun_aims, meets_unchanged}
+use Rattle.wat_tied.proofs.Meeting.{begun_meeting}
 use Rattle.wat_tied.proofs.Placed.{begun_placed}
 use Rattle.wat_tied.proofs.Renewed.{has_work}
 use Rattle.wat_tied.proofs.Same.{same_ties}
@@ -64,9 +71,17 @@ opened_tied e g c ties present =
       idle = tt;
       outside = λ out. absurd (present out);
       works = λ going. goes_open e k (transaction_of c e) k.work g c (ties.works going c);
+      meets = λ going. ties.meets going c;
     })
 
 -- ---- a statement is begun
+
+-- nothing is met yet
+begun_meets : (cat : Catalog) (s : law.State sql) (c level : ℕ) (x : Statement) → ScansEach cat (task_of cat x).plan → MeetsWith s c (Some (begin cat level x))
+unfolding begin
+begun_meets cat s c level x ok =
+    meets_unchanged s c (record { task = task_of cat x; level = level; progress = begun_scans (task_of cat x).plan; made = [] }) refl (begun_scans (task_of cat x).plan)
+    (begun_meeting cat (task_of cat x).plan ok) (λ writes l sources. begun_aims cat (task_of cat x).plan ok l sources s c)
 
 begun_here : (e : CoreState) (g : Ghost) (c : ℕ) → Ties e g → (e.connections c).work ≡ None → is_some (e.connections c).transaction ≡ true
     → (span : Span) (more : List Span) → (e.connections c).left ≡ span ∷ more → (written : Statement) → parsed_at (e.connections c).script span ≡ Ok written
@@ -99,6 +114,7 @@ begun_here e g c ties free open_one span more first written read x checked stepp
         recorded = subst (λ (work : Option Run). GoesWith (schema_of e) k work (g.work c)) free (ties.works going c);
         has_transaction = open_one;
       };
+      meets = λ going. begun_meets (schema_of e) g.state c k.level x (task_planned (schema_of e) x ties.schema);
     })
 
 pub begun_tied : (e after : CoreState) (c : ℕ) → IsTied e → (e.connections c).work ≡ None

@@ -3,6 +3,7 @@ use Rattle.std.proofs.Common.{◌≡◌, ℕ, List, [], ◌∷◌, ◌++◌, map
 use Rattle.std.specs.List.{fold}
 use Rattle.std.proofs.lemmas.List.{reverse-append, append_assoc}
 use Rattle.wat_list.specs.Has.{Has}
+use Rattle.wat_list.proofs.Members.{has_right}
 use Rattle.wat_value.specs.declared.change.Change.{Change}
 use Rattle.wat_value.specs.Changes.{RowName, changed_table, row_before, row_after}
 use Rattle.wat_value.specs.Indexes.{index_numbers}
@@ -29,13 +30,14 @@ use Rattle.wat_steps.specs.Answering.{IsSame}
 use Rattle.wat_steps.specs.Asking.{with_locks, going_on}
 use Rattle.wat_steps.specs.Changing.{made}
 use Rattle.wat_steps.specs.Making.{AreSpots, changed}
-use Rattle.wat_tied.specs.Tied.{Relates, IsFormed, standing_as, AreStanding, stood_in, standing_in, IsGoing, Ghost, Ties, IsTied}
+use Rattle.wat_tied.specs.Tied.{Relates, IsFormed, standing_as, AreStanding, stood_in, standing_in, IsGoing, MeetsWith, Ghost, Ties, IsTied}
+use Rattle.wat_tied.proofs.Aims.{meets_changed}
 use Rattle.wat_tied.proofs.Begun.{here}
 use Rattle.wat_tied.proofs.Granted.{there, not_idle, working}
 use Rattle.wat_tied.proofs.Keys as keys
 use Rattle.wat_tied.proofs.Moved.{row_given, moved}
 use Rattle.wat_tied.proofs.Reading.{adds}
-use Rattle.wat_tied.proofs.Renewed.{renewed, renewal, has_work}
+use Rattle.wat_tied.proofs.Renewed.{rows_stay, renewed, renewal, has_work}
 use Rattle.wat_tied.proofs.Same.{same_ties}
 use Rattle.wat_tied.proofs.Spots.{change_of, spots_right}
 
@@ -141,10 +143,13 @@ module _ (e : CoreState) (g : Ghost) (ties : Ties e g) (c : ℕ) (run : Run) (un
     here = here e c k;
     there = there e c k;
     others = λ d ne. put-other nat_eq nat_same s.conns c new d ne;
+    rows = λ d ne. rows_stay s t ties.kept (event_keeps sql s event ties.kept may) refl d (put-other nat_eq nat_same s.conns c new d ne);
     log = ap (λ (z : law.Connection sql). z.log) there_is ∙ ((λ j. Did r (before j) (row_after ch) ∷ (s.conns c).log) ∙ ap (λ z. item ∷ z) (ties.log c));
     standing = subst (λ z. AreStanding (schema_of e) z (t.conns c).standing) (sym (last ch (stood_in (e.connections c).transaction) run.made)) stood;
     idle = not_idle (t.conns c) (g.entries c) (item ∷ g.work c) (e.connections c).transaction was.has_transaction;
     works = λ going. goes_on;
+    meets = λ on. meets_changed s t c r ch (row_after ch) refl (λ m h. subst (λ (z : law.Connection sql). Has m z.locks) (sym there_is) (has_right m (long_locks wants) (s.conns c).locks h)) before run
+        (subst (MeetsWith s c) under (ties.meets on c));
     parts = ties.parts c;
     serial = ties.serial;
   })

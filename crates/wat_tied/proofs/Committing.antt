@@ -99,10 +99,12 @@ module _ (e : CoreState) (g : Ghost) (ties : Ties e g) (c : ℕ) (going : e.stop
     here = done_here c mid with_none span more answer [] (here e c with_none) first;
     there = λ d ne. done_there c d mid answer [] ne ∙ there e c with_none d ne;
     others = λ d ne. put-other nat_eq nat_same s.conns c (law.idle sql) d ne;
+    rows = λ d ne r h. refl;
     log = ap (λ (z : law.Connection sql). z.log) (put-same nat_eq nat_same s.conns c (law.idle sql));
     standing = record { formed = λ ch has. absurd has; same = ap (λ (z : law.Connection sql). z.standing) (put-same nat_eq nat_same s.conns c (law.idle sql)) };
     idle = (put-same nat_eq nat_same s.conns c (law.idle sql), refl, refl);
     works = λ on. refl;
+    meets = λ on. tt;
     parts = λ p m. absurd m;
     serial = grows 3 e.base e.committed new_base g.history commit ties.serial (subst (Follows 3 e.committed (parts_in (g.entries c))) after_is went.1);
   })

@@ -20,14 +20,14 @@ use Rattle.wat_steps.specs.Changing.{made, undone}
 use Rattle.wat_steps.specs.Answering.{IsSame, answered, ended, rolled_back, rolled_back_from}
 use Rattle.wat_steps.specs.Asking.{broken_off}
 use Rattle.wat_steps.specs.Step.{closed}
-use Rattle.wat_tied.specs.Tied.{Relates, AreStanding, stood_in, made_in, standing_in, IsGoing, GoesWith, IsIdle, IsInside, Ghost, Ties, IsTied}
+use Rattle.wat_tied.specs.Tied.{Relates, AreStanding, stood_in, made_in, standing_in, IsGoing, GoesWith, IsIdle, IsInside, MeetsWith, Ghost, Ties, IsTied}
 use Rattle.wat_tied.proofs.Answered.{done, done_here, done_there, answered_relates}
 use Rattle.wat_tied.proofs.Begun.{here}
 use Rattle.wat_tied.proofs.Changed.{fold_append}
 use Rattle.wat_tied.proofs.Ending.{left_with, freed, freed_relates}
 use Rattle.wat_tied.proofs.Granted.{there, working}
 use Rattle.wat_tied.proofs.Refused.{same_tied}
-use Rattle.wat_tied.proofs.Renewed.{renewed, renewal, has_work}
+use Rattle.wat_tied.proofs.Renewed.{rows_stay, renewed, renewal, has_work}
 use Rattle.wat_tied.proofs.Undone.{IsUndone, undo_all}
 
 -- the core after the end: all but the connection is as it was after the undoing, less its locks and vacant keys
@@ -74,10 +74,12 @@ end_tied e g ties c u k after end = finish r.0 (subst (λ (z : CoreState). IsUnd
             here = end.here;
             there = λ d ne. end.there d ne ∙ sym (ap (λ (z : CoreState). z.connections d) b.others_same);
             others = λ d ne. put-other nat_eq nat_same t.conns c (law.idle sql) d ne ∙ b.others d ne;
+            rows = λ d ne. rows_stay g.state t ties.kept b.kept b.base d (b.others d ne);
             log = ap (λ (z : law.Connection sql). z.log) idle;
             standing = subst (λ z. AreStanding (schema_of e) z (gone.conns c).standing) (sym nothing) (record { formed = λ ch has. absurd has; same = ap (λ (z : law.Connection sql). z.standing) idle });
             idle = subst (IsIdle (gone.conns c) [] []) (sym end.no_transaction) (idle, refl, refl);
             works = λ going. subst (λ (z : Option Run). GoesWith (schema_of e) k z []) (sym end.no_work) refl;
+            meets = λ going. subst (MeetsWith gone c) (sym end.no_work) tt;
             parts = λ p m. absurd m;
             serial = subst (λ z. Serial 3 z g.history after.committed) (sym (end.base ∙ sym (ap (λ (z : CoreState). z.base) b.others_same)))
                 (subst (Serial 3 e.base g.history) (sym (end.committed ∙ sym (ap (λ (z : CoreState). z.committed) b.others_same))) ties.serial);

@@ -77,10 +77,12 @@ module _ (e : CoreState) (g : Ghost) (ties : Ties e g) (c : ℕ) (going : e.stop
       here = done_here c mid before span more answer [] but.here first;
       there = λ d ne. done_there c d mid answer [] ne ∙ but.there d ne;
       others = λ d ne. refl;
+      rows = λ d ne r h. refl;
       log = ties.log c ∙ ap (λ z. z ++ items_in (g.entries c)) (no_work e g ties c going resting);
       standing = subst (λ (z : Option OpenTransaction). AreStanding (schema_of e) (standing_in z None) (g.state.conns c).standing) (sym opened) old;
       idle = not_idle (g.state.conns c) (recorded ∷ g.entries c) [] before.transaction (ap is_some opened);
       works = λ on. refl;
+      meets = λ on. tt;
       parts = λ p m. ⊎_elim (λ (h : recorded ≡ p). subst (IsDetermined (schema_of e)) h determined) (λ (h : Has p (g.entries c)). ties.parts c p h) m;
       serial = subst (λ (z : CoreState). Serial 3 z.base g.history z.committed) but.rest ties.serial;
     });

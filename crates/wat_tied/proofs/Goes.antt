@@ -1,5 +1,5 @@
 -- Each step of a statement under way leaves the core tied.
-use Rattle.std.proofs.Common.{◌≡◌, ℕ, Bool, true, false, List, [], Option, Some, None, refl, ap, ◌∙◌, inl, inr}
+use Rattle.std.proofs.Common.{◌≡◌, ℕ, Bool, true, false, List, [], Option, Some, None, refl, ap, ◌∙◌, subst, inl, inr}
 use Rattle.wat_value.specs.declared.change.Change.{Change}
 use Rattle.wat_value.specs.declared.change.Change.TheVariants as change
 use Rattle.wat_value.specs.Changes.{changed_table, row_before}
@@ -20,13 +20,14 @@ use Rattle.wat_steps.specs.Asking.{IsBlocked, Asks}
 use Rattle.wat_steps.specs.Making.{standing_row, IsChange, IsChangeAt, changed}
 use Rattle.wat_steps.specs.Visiting.{IsVisit, visited, wants_of}
 use Rattle.wat_steps.specs.Step.{GoesOn}
-use Rattle.wat_tied.specs.Ready.{IsReady, IsReadyFor}
-use Rattle.wat_tied.specs.Tied.{IsTied}
+use Rattle.wat_tied.specs.Ready.{IsReadyFor}
+use Rattle.wat_tied.specs.Tied.{MeetsWith, IsTied}
 use Rattle.wat_tied.proofs.Changed.{change_tied}
 use Rattle.wat_tied.proofs.Ended.{deadlock_tied}
-use Rattle.wat_tied.proofs.Granted.{visit_tied}
+use Rattle.wat_tied.proofs.Granted.{working, visit_tied}
 use Rattle.wat_tied.proofs.Keys as keys
 use Rattle.wat_tied.proofs.Refused.{refuse_tied, locked_tied, failed_tied, duplicate_tied}
+use Rattle.wat_tied.proofs.Readied.{ready_now}
 use Rattle.wat_tied.proofs.Replying.{reply_tied}
 use Rattle.wat_tied.proofs.Updated.{waiting_tied}
 use Rattle.wat_level.specs.Change.{change_wants}
@@ -37,6 +38,10 @@ finds : (e : CoreState) (l : Listing) (ch : Change) → listing_at (schema_of e)
 finds e l (change.Insert n row) listing ready free = ap (look e.now) (keys.name (schema_of e) l (change.Insert n row) listing) ∙ free
 finds e l (change.Update n old new) listing ready free = ready.stands old refl
 finds e l (change.Delete n old) listing ready free = ready.stands old refl
+
+-- the next change is ready
+pub next_ready : (e : CoreState) (c : ℕ) (run : Run) → (tied : IsTied e) → e.stop ≡ None → (e.connections c).work ≡ Some run → (ch : Change) → next run ≡ ToChange ch → IsReadyFor e ch
+next_ready e c run tied going under ch coming = ready_now e tied.ghost tied.ties c run (working e tied c run going under) (subst (MeetsWith tied.ghost.state c) under (tied.ties.meets going c)) ch coming
 
 module _ (e after : CoreState) (c : ℕ) (a : Progressed) (run : Run) (tied : IsTied e) (going : e.stop ≡ None) (under : (e.connections c).work ≡ Some run) where
   blocked_tied : (wants : List Want) (against : Against) (blocking : Bool) → IsBlocked c e run wants against blocking a after → IsTied after
@@ -70,11 +75,11 @@ module _ (e after : CoreState) (c : ℕ) (a : Progressed) (run : Run) (tied : Is
       by (Some other) stands (inl p) = duplicate_tied e after c run tied going under ch coming h.0 h.1 other stands p.0 p.1.1
       by (Some other) stands (inr q) = blocked_tied (change_wants h.0.def ch []) q.0 (e.connections c).blocking q.2
 
-  pub works_tied : IsReady e c → GoesOn c e run (next run) a after → IsTied after
-  works_tied ready = by (next run) refl
+  pub works_tied : GoesOn c e run (next run) a after → IsTied after
+  works_tied = by (next run) refl
     where
       by : (n : Next) → next run ≡ n → GoesOn c e run n a after → IsTied after
       by (ToVisit scan ts met) coming h = visits_tied scan ts met coming h
-      by (ToChange ch) coming h = changes_tied ch coming (ready run under ch coming) h
+      by (ToChange ch) coming h = changes_tied ch coming (next_ready e c run tied going under ch coming) h
       by (ToRefuse x) coming h = refuse_tied e after c run tied going under x coming h.1
       by (ToReply r) coming h = reply_tied e after c run tied going under r coming h.1

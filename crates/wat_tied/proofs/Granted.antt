@@ -1,11 +1,18 @@
 -- A visit that is granted, after which the statement goes on, leaves the core tied.
-use Rattle.std.proofs.Common.{◌≡◌, ℕ, ◌==◌, nat_le, Bool, true, false, not, ◌&&◌, if◌then◌else◌, List, [], ◌∷◌, ◌++◌, map, length, is_some, Option, Some, None, refl, sym, ap, ◌∙◌, subst}
+use Rattle.std.proofs.Common.{◌≡◌, ℕ, ◌==◌, nat_le, Bool, true, false, not, ◌&&◌, if◌then◌else◌, List, [], ◌∷◌, ◌++◌, map, length, is_some, Option, Some, None, refl, sym, ap, ◌∙◌, subst, inl}
 use Rattle.std.specs.List.{filter}
-use Rattle.std.proofs.lemmas.Bool.{both_ways, eqb-true}
+use Rattle.std.proofs.lemmas.Bool.{and_from, both_ways, eqb-true}
+use Rattle.wat_list.specs.Has.{Has}
+use Rattle.wat_list.proofs.Members.{has_left, has_right}
+use Rattle.wat_value.specs.declared.value.Value.{Value}
 use Rattle.wat_value.specs.declared.place.Place.{Place}
 use Rattle.wat_value.specs.declared.place.Place.TheVariants.{At, End}
-use Rattle.wat_value.specs.Changes.{RowName}
-use Rattle.wat_schema.specs.Catalog.{listing_at}
+use Rattle.wat_value.specs.Bounds.{is_below}
+use Rattle.wat_value.specs.Changes.{RowName, row_name}
+use Rattle.wat_value.specs.Fits.{key_of}
+use Rattle.wat_schema.specs.Catalog.{Listing, listing_at}
+use Rattle.wat_schema.specs.Tables.{Row}
+use Rattle.wat_expr.specs.Logic.{is_true}
 use Rattle.wat_expr.specs.Evaluation.{Combination}
 use Rattle.wat_isolation.specs.Logs.{Item, Item.Peeked}
 use Rattle.wat_isolation.specs.Machine as law
@@ -13,34 +20,42 @@ use Rattle.wat_isolation.specs.Sql.{sql, IndexName}
 use Rattle.wat_locks.specs.declared.held.Held.{Held}
 use Rattle.wat_locks.specs.declared.want.Want.{Want}
 use Rattle.wat_locks.specs.Held.{AreFree, entry, is_for}
-use Rattle.wat_level.specs.Visit.{visit_wants}
+use Rattle.wat_level.specs.declared.visit.Visit.{Visit}
+use Rattle.wat_level.specs.Wanted.{long_want, write_lock}
+use Rattle.wat_level.specs.Visit.{read_wants, write_wants, row_wants, place_wants, visit_wants}
 use Rattle.wat_plan.specs.Plans.{listing_of_step}
 use Rattle.wat_plan.specs.Scanned.{ScansEach}
 use Rattle.wat_protocol.specs.Locked.{long_locks}
+use Rattle.wat_protocol.proofs.LockLemmas.{has_long}
 use Rattle.wat_scans.specs.declared.scan.Scan.{Scan}
 use Rattle.wat_scans.specs.declared.scan.Seen.{Seen}
 use Rattle.wat_scans.specs.declared.scan.Taken.{Taken}
 use Rattle.wat_scans.specs.Recorded.{index_of_step, HasWidth}
 use Rattle.wat_scans.specs.Running.{Run, Task, task_of, Next.ToVisit, next, after_visit, visit_item, items_of}
-use Rattle.wat_scans.specs.Scans.{Progress}
+use Rattle.wat_scans.specs.Look.{look}
+use Rattle.wat_scans.specs.Scans.{Progress, is_inside, moved, rows_taken, where_at}
+use Rattle.wat_scans.specs.Sources.{IsRowAt}
+use Rattle.wat_scans.proofs.Found.{rows_fit}
 use Rattle.wat_scans.specs.Told.{IsUnderWay}
 use Rattle.wat_scans.proofs.Going.{none_before_visit, visit_goes}
 use Rattle.wat_scans.proofs.Planned.{task_planned}
 use Rattle.wat_scans.proofs.Rows.{step_listing}
-use Rattle.wat_visits.specs.Asked.{visit_of}
+use Rattle.wat_visits.specs.Asked.{visit_of, primary_in, row_of_place, row_passes}
 use Rattle.wat_steps.specs.State.{OpenTransaction, ConnectionState, CoreState, schema_of, IsFirstFrom, with_connection}
 use Rattle.wat_steps.specs.Answering.{IsSame}
 use Rattle.wat_steps.specs.Asking.{with_locks, going_on}
 use Rattle.wat_steps.specs.Visiting.{IsSeen, writes_rows, wants_of, without_visit, seen_by, visited}
-use Rattle.wat_tied.specs.Tied.{AreStanding, RecordedPart, AreReads, IsOfStep, AreOfSteps, ArePlaced, standing_in, IsGoing, GoesWith, Ghost, IsIdle, Ties, IsTied}
+use Rattle.wat_tied.specs.Tied.{AreStanding, RecordedPart, AreReads, IsOfStep, AreOfSteps, ArePlaced, standing_in, IsGoing, GoesWith, AreAims, HasMet, HasMetSo, MeetsWith, Ghost, IsIdle, Ties, IsTied}
+use Rattle.wat_tied.proofs.Aims.{AimsSo, listing_is, visited_aims, meets_unchanged}
 use Rattle.wat_tied.proofs.Begun.{here}
+use Rattle.wat_tied.proofs.Meeting.{IsFound, found, visited_meeting}
 use Rattle.wat_tied.proofs.Next.{visit_progress}
 use Rattle.wat_tied.proofs.Placed.{visited_placed}
 use Rattle.wat_tied.proofs.Places as places
 use Rattle.wat_tied.proofs.Reading.{IsReadIn, long_stay, peeked}
 use Rattle.wat_tied.proofs.Renewed.{renewed, renewal, has_work}
 use Rattle.wat_tied.proofs.Same.{same_ties}
-use Rattle.wat_tied.proofs.Visiting.{same_wants, visit_read}
+use Rattle.wat_tied.proofs.Visiting.{same_wants, primary_is, visit_read}
 
 -- another connection is as it was
 pub there : (e : CoreState) (c : ℕ) (k : ConnectionState) (d : ℕ) → (d ≡ c → ⊥) → (with_connection c k e).connections d ≡ e.connections d
@@ -101,6 +116,51 @@ module _ (e : CoreState) (g : Ghost) (ties : Ties e g) (c : ℕ) (run : Run) (un
   pub goes_later : IsUnderWay (schema_of e) was.statement later (visit_item run scan seen ∷ was.visits)
   goes_later = visit_goes (schema_of e) was.statement run was.visits plan was.going scan ts met seen progress (long seen.place sees.first)
 
+  -- ---- what is met then
+
+  module _ (on : e.stop ≡ None) where
+    met_before : HasMet g.state c run (record { scan = Some scan; taken = ts; met = met })
+    met_before = subst (HasMetSo g.state c run) progress (subst (MeetsWith g.state c) under (ties.meets on c))
+
+    seen_row : (key : List Value) (row : Row) → seen.place ≡ At key → seen.row ≡ Some row → is_below scan.interval.upper key ≡ true → IsFound (schema_of e) run.task.plan planned (look e.now) scan.step key row
+    seen_row key row place here low =
+        found (schema_of e) run.task.plan planned (look e.now) (rows_fit (schema_of e) (look e.now) e.now (record { tables = ties.relates.now.tables; schema = refl; rows = λ r. refl })) (length ts) scan.step met_before.meeting.at.0 key row
+        (subst (IsRowAt (schema_of e) (look e.now) i (At key)) here (subst (λ q. IsRowAt (schema_of e) (look e.now) i q seen.row) place (sees.row (ap (is_inside scan) place ∙ low))))
+
+    has_write : (visit : Visit) (key : List Value) → visit.past ≡ false → visit.row ≡ Some key → visit.writes ≡ true → Has (long_want (write_lock visit.table key)) (visit_wants run.level visit)
+    has_write visit key past row writes =
+        has_left (long_want (write_lock visit.table key)) (if visit.past then [] else row_wants run.level visit visit.row) (place_wants run.level visit)
+        (subst (λ b. Has (long_want (write_lock visit.table key)) (if b then [] else row_wants run.level visit visit.row)) (sym past)
+        (subst (λ o. Has (long_want (write_lock visit.table key)) (row_wants run.level visit o)) (sym row)
+        (has_right (long_want (write_lock visit.table key)) (read_wants run.level visit.scan visit.table key) (write_wants visit.writes visit.table key)
+        (subst (λ b. Has (long_want (write_lock visit.table key)) (write_wants b visit.table key)) (sym writes) (inl refl)))))
+
+    module _ (t : law.State sql) (item : Item sql) (v : IsReadIn e g.state t c item wants (fewer ++ map (entry c) wants)) where
+      got : writes_rows run.task.statement ≡ true → (key : List Value) (row : Row) → seen.place ≡ At key → seen.row ≡ Some row → is_below scan.interval.upper key ≡ true
+          → is_true (where_at run.task.plan (rows_taken run.task.plan (record { scan = moved scan key; row = row } ∷ ts))) ≡ true → Has (law.Lock.Write (row_name (listing_of_step run.task.plan scan.step).def row)) (t.conns c).locks
+      got writes key row place here low passes =
+          let k = seen_row key row place here low in
+          let visit : Visit = visit_of run.task.plan (writes_rows run.task.statement) scan ts seen in
+          let primary : primary_in run.task.plan scan.step key ≡ key_of (listing_of_step run.task.plan scan.step).def row = primary_is (schema_of e) run.task.plan scan.step listing key ∙ ap (λ (z : RowName). z.key) k.name in
+          v.gets (law.Lock.Write (row_name (listing_of_step run.task.plan scan.step).def row)) (has_long wants (law.Lock.Write (row_name (listing_of_step run.task.plan scan.step).def row))
+          (has_write visit (key_of (listing_of_step run.task.plan scan.step).def row) (ap not (ap (is_inside scan) place ∙ low)) (ap (row_of_place run.task.plan scan.step) place ∙ ap Some primary)
+          (and_from (writes_rows run.task.statement) (row_passes run.task.plan scan ts seen.row) writes (ap (row_passes run.task.plan scan ts) here ∙ passes))))
+
+      aims_later : writes_rows run.task.statement ≡ true → (l : Listing) → run.task.plan.sources ≡ l ∷ [] → AimsSo t c run.task.plan l later.progress
+      aims_later writes l sources =
+          let is : listing_of_step run.task.plan scan.step ≡ l = listing_is (schema_of e) run.task.plan planned l sources (length ts) scan.step met_before.meeting.at.0 in
+          visited_aims (schema_of e) run.task.plan planned l sources g.state t c scan ts met met_before.meeting.outside met_before.meeting.at.0
+          (subst (λ z. AreAims g.state c run.task.plan l z (record { scan = Some scan; taken = ts; met = met })) none (met_before.aims writes l sources)) v.now v.locks seen
+          (λ key place. (subst (IsFirstFrom e i scan.from) place sees.first).0)
+          (λ key row place here low. let k = seen_row key row place here low in (
+            k.values,
+            sym (ties.relates.now.rows (row_name l.def row)) ∙ subst (λ (z : Listing). look e.now (row_name z.def row) ≡ Some row) is k.stands,
+            λ passes. subst (λ (z : Listing). Has (law.Lock.Write (row_name z.def row)) (t.conns c).locks) is (got writes key row place here low passes),
+          ))
+
+      meets_then : MeetsWith t c (Some later)
+      meets_then = meets_unchanged t c later none later.progress (visited_meeting (schema_of e) run.task.plan planned scan ts met seen met_before.meeting (look e.now) seen_row) aims_later
+
   module _ (item : Item sql) (reads : AreReads was.reads → AreReads (item ∷ was.reads)) (three : nat_le 3 run.level ≡ true → item ≡ visit_item run scan seen) where
     pub goes_on : IsGoing (schema_of e) k later (item ∷ g.work c)
     goes_on = record {
@@ -123,7 +183,7 @@ module _ (e : CoreState) (g : Ghost) (ties : Ties e g) (c : ℕ) (run : Run) (un
       has_transaction = was.has_transaction;
     }
 
-    pub visit_ties : (t : law.State sql) → IsReadIn e g.state t c item (fewer ++ map (entry c) wants) → Ties after (renewal g c t (g.entries c) (item ∷ g.work c) g.history)
+    pub visit_ties : (t : law.State sql) → IsReadIn e g.state t c item wants (fewer ++ map (entry c) wants) → Ties after (renewal g c t (g.entries c) (item ∷ g.work c) g.history)
     visit_ties t v = renewed e after g ties c t k (g.entries c) (item ∷ g.work c) g.history (record {
       kept = v.kept;
       relates = record { scheme = v.relates.scheme; now = v.relates.now; base = v.relates.base; locks = v.relates.locks; vacant = v.relates.vacant };
@@ -134,11 +194,13 @@ module _ (e : CoreState) (g : Ghost) (ties : Ties e g) (c : ℕ) (run : Run) (un
       here = here e c k;
       there = there e c k;
       others = v.others;
+      rows = λ d ne r h. ap (λ f. f r) v.now;
       log = v.log ∙ ap (λ z. item ∷ z) (ties.log c);
       standing = subst (AreStanding (schema_of e) (standing_in (e.connections c).transaction (Some later))) (sym v.standing)
           (subst (λ (z : Option Run). AreStanding (schema_of e) (standing_in (e.connections c).transaction z) (g.state.conns c).standing) under (ties.standing c));
       idle = not_idle (t.conns c) (g.entries c) (item ∷ g.work c) (e.connections c).transaction was.has_transaction;
       works = λ going. goes_on;
+      meets = λ on. meets_then on t item v;
       parts = ties.parts c;
       serial = ties.serial;
     })
@@ -156,7 +218,7 @@ module _ (e : CoreState) (g : Ghost) (ties : Ties e g) (c : ℕ) (run : Run) (un
           let v = visit_read e g.state ties.relates ties.kept c run.task.plan (writes_rows run.task.statement) scan ts fewer (long_stay g.state c (length ts) e.held ties.relates.locks) listing seen sees (subst (AreFree e.held c) same free) in
           record {
             ghost = renewal g c v.0 (g.entries c) (visit_item run scan seen ∷ g.work c) g.history;
-            ties = visit_ties (visit_item run scan seen) (λ h. h) (λ h. refl) v.0 (subst (λ (w : List Want). IsReadIn e g.state v.0 c (visit_item run scan seen) (fewer ++ map (entry c) w)) (sym same) v.1);
+            ties = visit_ties (visit_item run scan seen) (λ h. h) (λ h. refl) v.0 (subst (λ (w : List Want). IsReadIn e g.state v.0 c (visit_item run scan seen) w (fewer ++ map (entry c) w)) (sym same) v.1);
           }
       by false low =
           let v = peeked e g.state ties.relates ties.kept c fewer wants free (long_stay g.state c (length ts) e.held ties.relates.locks) r in

@@ -36,6 +36,7 @@ with_fewer e c g ties = record {
   serial = ties.serial;
   outside = λ c out. ties.outside c (λ i. out (record { from_one = i.from_one; within = i.within }));
   works = ties.works;
+  meets = ties.meets;
 }
 
 same_transaction : (left : List Span) (k : ConnectionState) (answer : Answer) → (with_answer left k answer []).transaction ≡ k.transaction
@@ -70,5 +71,6 @@ quiet_tied e after c answer tied free closed same =
             idle = subst (λ (t : Option OpenTransaction). IsIdle (g.state.conns c) (g.entries c) (g.work c) t) (sym (same_transaction old.left old answer)) (tied.ties.idle c);
             outside = λ out. stays_absent old answer (tied.ties.outside c out);
             works = λ going. nothing_recorded e g c old.transaction closed (tied.ties.idle c);
+            meets = λ going. tt;
           })));
     }

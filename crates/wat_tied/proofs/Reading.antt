@@ -27,14 +27,16 @@ use Rattle.wat_steps.specs.State.{CoreState}
 use Rattle.wat_tied.specs.Tied.{left_of, Relates}
 
 -- the state of the law after a step that recorded this, and the locks that are held then
-pub record IsReadIn (e : CoreState) (s t : law.State sql) (c : ℕ) (item : Item sql) (held : List Held) : Type 0 where
+pub record IsReadIn (e : CoreState) (s t : law.State sql) (c : ℕ) (item : Item sql) (wants : List Want) (held : List Held) : Type 0 where
   pub kept : Kept sql t
   pub relates : Relates (record e { held = held }) t
   pub log : (t.conns c).log ≡ item ∷ (s.conns c).log
   pub standing : (t.conns c).standing ≡ (s.conns c).standing
   pub others : (d : ℕ) → (d ≡ c → ⊥) → t.conns d ≡ s.conns d
   pub now : t.now ≡ s.now
+  pub base : t.base ≡ s.base
   pub locks : (m : law.Lock sql) → Has m (s.conns c).locks → Has m (t.conns c).locks
+  pub gets : (m : law.Lock sql) → Has m (long_locks wants) → Has m (t.conns c).locks
 
 -- ---- locks
 
@@ -72,7 +74,7 @@ read_vacant s c log standing wants list back to k = record {
 module _ (e : CoreState) (s : law.State sql) (relates : Relates e s) (kept : Kept sql s) (c : ℕ) where
   -- the part of a scan in which nothing is read yet
   pub begun_reading : (i : IndexName) (lo : List Value → Bool) → IsCut sql lo
-      → IsReadIn e s (law.happens sql s (law.Event.Begin_scan c i lo)) c (Saw (record { index = i; lo = lo; hi = lo; done = false; rows = [] })) e.held
+      → IsReadIn e s (law.happens sql s (law.Event.Begin_scan c i lo)) c (Saw (record { index = i; lo = lo; hi = lo; done = false; rows = [] })) [] e.held
   begun_reading i lo cut = record {
     kept = event_keeps sql s (law.Event.Begin_scan c i lo) kept cut;
     relates = record {
@@ -86,7 +88,9 @@ module _ (e : CoreState) (s : law.State sql) (relates : Relates e s) (kept : Kep
     standing = ap (λ (z : law.Connection sql). z.standing) here;
     others = λ d ne. put-other nat_eq nat_same s.conns c new d ne;
     now = refl;
+    base = refl;
     locks = λ m h. subst (λ (z : law.Connection sql). Has m z.locks) (sym here) h;
+    gets = λ m h. absurd h;
   }
     where
       new : law.Connection sql
@@ -98,7 +102,7 @@ module _ (e : CoreState) (s : law.State sql) (relates : Relates e s) (kept : Kep
   -- ---- a row is read at a lower level, or found taken
 
   module _ (held : List Held) (wants : List Want) (free : AreFree e.held c wants) (fewer : AreHeld s held) (r : RowName) where
-    pub peeked : IsReadIn e s (law.happens sql s (law.Event.Peek c r (long_locks wants))) c (Peeked r (s.now r)) (held ++ map (entry c) wants)
+    pub peeked : IsReadIn e s (law.happens sql s (law.Event.Peek c r (long_locks wants))) c (Peeked r (s.now r)) wants (held ++ map (entry c) wants)
     peeked = record {
       kept = event_keeps sql s (law.Event.Peek c r (long_locks wants)) kept (all_free s e.held c wants relates.locks free);
       relates = record {
@@ -112,7 +116,9 @@ module _ (e : CoreState) (s : law.State sql) (relates : Relates e s) (kept : Kep
       standing = ap (λ (z : law.Connection sql). z.standing) here;
       others = λ d ne. put-other nat_eq nat_same s.conns c new d ne;
       now = refl;
+      base = refl;
       locks = λ m h. subst (λ (z : law.Connection sql). Has m z.locks) (sym here) (has_right m (long_locks wants) (s.conns c).locks h);
+      gets = λ m h. subst (λ (z : law.Connection sql). Has m z.locks) (sym here) (has_left m (long_locks wants) (s.conns c).locks h);
     }
       where
         new : law.Connection sql
@@ -121,7 +127,7 @@ module _ (e : CoreState) (s : law.State sql) (relates : Relates e s) (kept : Kep
         here : put nat_eq s.conns c new c ≡ new
         here = put-same nat_eq nat_same s.conns c new
 
-    pub looked : law.May sql s (law.Event.Look c r (long_locks wants)) → IsReadIn e s (law.happens sql s (law.Event.Look c r (long_locks wants))) c (Looked r (s.now r)) (held ++ map (entry c) wants)
+    pub looked : law.May sql s (law.Event.Look c r (long_locks wants)) → IsReadIn e s (law.happens sql s (law.Event.Look c r (long_locks wants))) c (Looked r (s.now r)) wants (held ++ map (entry c) wants)
     looked may = record {
       kept = event_keeps sql s (law.Event.Look c r (long_locks wants)) kept may;
       relates = record {
@@ -135,7 +141,9 @@ module _ (e : CoreState) (s : law.State sql) (relates : Relates e s) (kept : Kep
       standing = ap (λ (z : law.Connection sql). z.standing) here;
       others = λ d ne. put-other nat_eq nat_same s.conns c new d ne;
       now = refl;
+      base = refl;
       locks = λ m h. subst (λ (z : law.Connection sql). Has m z.locks) (sym here) (has_right m (long_locks wants) (s.conns c).locks h);
+      gets = λ m h. subst (λ (z : law.Connection sql). Has m z.locks) (sym here) (has_left m (long_locks wants) (s.conns c).locks h);
     }
       where
         new : law.Connection sql

@@ -26,13 +26,13 @@ use Rattle.wat_tied.specs.Tied.{Relates, AreStanding, RecordedPart, IsDetermined
 use Rattle.wat_tied.proofs.Answered.{done, done_here, done_there, answered_relates, part_of, meant}
 use Rattle.wat_tied.proofs.Granted.{not_idle}
 use Rattle.wat_tied.proofs.Recorded.{view_of_reads, did_items, did_is, undone_view}
-use Rattle.wat_tied.proofs.Renewed.{renewed, renewal, has_work}
+use Rattle.wat_tied.proofs.Renewed.{rows_stay, renewed, renewal, has_work}
 use Rattle.wat_tied.proofs.Undone.{undo_items, IsUndone, undo_all}
 
 -- The statement is refused in a step in which its connection got other locks, and in which what is in `extra` was read.
 module _ (e : CoreState) (g : Ghost) (ties : Ties e g) (c : ℕ) (run : Run) (under : (e.connections c).work ≡ Some run) (was : IsGoing (schema_of e) (e.connections c) run (g.work c))
     (held : List Held) (s : law.State sql) (extra : List (Item sql)) (relates : Relates (record e { held = held }) s) (kept : Kept sql s) (log : (s.conns c).log ≡ extra ++ (g.state.conns c).log)
-    (standing : (s.conns c).standing ≡ (g.state.conns c).standing) (others : (d : ℕ) → (d ≡ c → ⊥) → s.conns d ≡ g.state.conns d) (quiet : (f : RowName → Option Row) → view sql f extra ≡ f)
+    (standing : (s.conns c).standing ≡ (g.state.conns c).standing) (others : (d : ℕ) → (d ≡ c → ⊥) → s.conns d ≡ g.state.conns d) (base : s.base ≡ g.state.base) (quiet : (f : RowName → Option Row) → view sql f extra ≡ f)
     (answer : Answer)
     (told : (f : RowName → Option Row) (t : Tables) (r : Meant) → nat_le 3 run.level ≡ true → says answer ≡ Some r → IsOf (schema_of e) f t
     → Alone sql (scheme_of (schema_of e)) f (extra ++ items_of (schema_of e) run.made was.visits) → meaning_checked t was.statement ≡ record { answer = r; acts = [] }) where
@@ -104,11 +104,13 @@ module _ (e : CoreState) (g : Ghost) (ties : Ties e g) (c : ℕ) (run : Run) (un
           here = done_here c u (e.connections c) was.span was.more answer [] (ap (λ f. f c) connections) was.first;
           there = λ d ne. done_there c d u answer [] ne ∙ ap (λ f. f d) connections;
           others = λ d ne. b.others d ne ∙ others d ne;
+          rows = λ d ne. rows_stay g.state t ties.kept b.kept (b.base ∙ base) d (b.others d ne ∙ others d ne);
           log = b.log ∙ (ap (λ z. undo_items cat (reverse run.made) ++ z) (log ∙ (ap (λ z. extra ++ z) (ties.log c) ∙ sym (append_assoc extra (g.work c) (items_in (g.entries c)))))
               ∙ sym (append_assoc (undo_items cat (reverse run.made)) (extra ++ g.work c) (items_in (g.entries c))));
           standing = subst (λ z. AreStanding cat z (t.conns c).standing) (ap reverse (sym (append-nil stood))) b.standing;
           idle = not_idle (t.conns c) (recorded ∷ g.entries c) [] (e.connections c).transaction was.has_transaction;
           works = λ going. refl;
+          meets = λ going. tt;
           parts = λ p m. ⊎_elim (λ (h : recorded ≡ p). subst (IsDetermined cat) h determined) (λ (h : Has p (g.entries c)). ties.parts c p h) m;
           serial = subst (λ (z : CoreState). Serial 3 z.base g.history z.committed) b.others_same ties.serial;
         });

@@ -2,10 +2,11 @@
 use Rattle.std.proofs.Common.{◌≡◌, ℕ, ◌≤◌, List, [], ◌∷◌, ◌++◌, None, nat_eq, sym, ap, ◌∙◌, subst, ⊎_elim}
 use Rattle.std.proofs.lemmas.Bool.{cases_eq}
 use Rattle.wat_list.specs.Has.{Has}
+use Rattle.wat_value.specs.Changes.{RowName}
 use Rattle.wat_schema.specs.Catalog.{Catalog}
 use Rattle.wat_schema.specs.Stored.{IsCatalog}
 use Rattle.wat_isolation.specs.World.{put}
-use Rattle.wat_isolation.specs.Logs.{Item}
+use Rattle.wat_isolation.specs.Logs.{Item, view}
 use Rattle.wat_isolation.specs.Machine as law
 use Rattle.wat_isolation.specs.Kept.{Kept}
 use Rattle.wat_isolation.specs.Sql.{sql}
@@ -14,7 +15,8 @@ use Rattle.wat_parse.specs.declared.script.Span.{Span}
 use Rattle.wat_history.specs.History.{Commit}
 use Rattle.wat_history.specs.Serial.{Serial}
 use Rattle.wat_steps.specs.State.{ConnectionState, CoreState, schema_of}
-use Rattle.wat_tied.specs.Tied.{Relates, AreStanding, RecordedPart, IsDetermined, Ghost, standing_in, items_in, IsIdle, GoesWith, IsInside, IsAbsent, Ties}
+use Rattle.wat_tied.specs.Tied.{Relates, AreStanding, RecordedPart, IsDetermined, Ghost, standing_in, items_in, IsIdle, GoesWith, IsInside, IsAbsent, MeetsWith, Ties}
+use Rattle.wat_tied.proofs.Aims.{meets_stay}
 
 -- what is known of the connection that made the step, and of the whole
 pub record Renews (e after : CoreState) (g : Ghost) (c : ℕ) (t : law.State sql) (k : ConnectionState) (entries : List RecordedPart) (work : List (Item sql)) (history : List Commit) : Type 0 where
@@ -27,12 +29,20 @@ pub record Renews (e after : CoreState) (g : Ghost) (c : ℕ) (t : law.State sql
   pub here : after.connections c ≡ k
   pub there : (d : ℕ) → (d ≡ c → ⊥) → after.connections d ≡ e.connections d
   pub others : (d : ℕ) → (d ≡ c → ⊥) → t.conns d ≡ g.state.conns d
+  pub rows : (d : ℕ) → (d ≡ c → ⊥) → (r : RowName) → Has (law.Lock.Write r) (g.state.conns d).locks → t.now r ≡ g.state.now r
   pub log : (t.conns c).log ≡ work ++ items_in entries
   pub standing : AreStanding (schema_of e) (standing_in k.transaction k.work) (t.conns c).standing
   pub idle : IsIdle (t.conns c) entries work k.transaction
   pub works : e.stop ≡ None → GoesWith (schema_of e) k k.work work
+  pub meets : e.stop ≡ None → MeetsWith t c k.work
   pub parts : (p : RecordedPart) → Has p entries → IsDetermined (schema_of e) p
   pub serial : Serial 3 after.base history after.committed
+
+-- Where the commits are as before, the rows on which another connection holds Write are as it left them.
+pub rows_stay : (s t : law.State sql) → Kept sql s → Kept sql t → t.base ≡ s.base → (d : ℕ) → t.conns d ≡ s.conns d → (r : RowName) → Has (law.Lock.Write r) (s.conns d).locks → t.now r ≡ s.now r
+rows_stay s t before after base d same r h =
+    after.own d r (subst (λ (z : law.Connection sql). Has (law.Lock.Write r) z.locks) (sym same) h)
+    ∙ ((λ j. view sql (base j) (same j).log r) ∙ sym (before.own d r h))
 
 -- what stands beside the core then
 abbrev pub renewal : Ghost → ℕ → law.State sql → List RecordedPart → List (Item sql) → List Commit → Ghost
@@ -72,6 +82,10 @@ renewed e after g ties c t k entries work history r = record {
       (subst (λ (z : ConnectionState). GoesWith (schema_of e) z z.work (new.work c)) (sym r.here) (subst (λ z. GoesWith (schema_of e) k k.work z) (sym here_work) (r.works goes))))
       (λ d ne. subst (λ z. GoesWith z (after.connections d) (after.connections d).work (new.work d)) (sym r.same)
       (subst (λ (z : ConnectionState). GoesWith (schema_of e) z z.work (new.work d)) (sym (r.there d ne)) (subst (λ z. GoesWith (schema_of e) (e.connections d) (e.connections d).work z) (sym (there_work d ne)) (ties.works goes d))));
+  meets = λ going. let goes : e.stop ≡ None = sym r.stop ∙ going in
+      by_connection (λ d. MeetsWith t d (after.connections d).work)
+      (subst (λ (z : ConnectionState). MeetsWith t c z.work) (sym r.here) (r.meets goes))
+      (λ d ne. subst (λ (z : ConnectionState). MeetsWith t d z.work) (sym (r.there d ne)) (meets_stay g.state t d (r.others d ne) (r.rows d ne) (e.connections d).work (ties.meets goes d)));
 }
   where
     new : Ghost

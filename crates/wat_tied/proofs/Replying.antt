@@ -103,11 +103,13 @@ module _ (e : CoreState) (g : Ghost) (ties : Ties e g) (c : ℕ) (run : Run) (un
     here = done_here c mid with_changes was.span was.more answer acts (here e c with_changes) was.first;
     there = λ d ne. done_there c d mid answer acts ne ∙ there e c with_changes d ne;
     others = λ d ne. refl;
+    rows = λ d ne r h. refl;
     log = ties.log c;
     standing = subst (λ z. AreStanding cat z (g.state.conns c).standing)
         (ap (λ z. reverse (z ++ run.made)) (sym (stands_open (e.connections c).transaction was.has_transaction)) ∙ ap reverse (sym (append-nil ((transaction_of c e).standing ++ run.made)))) old;
     idle = tt;
     works = λ going. refl;
+    meets = λ going. tt;
     parts = λ p m. ⊎_elim (λ (h : recorded ≡ p). subst (IsDetermined cat) h determined) (λ (h : Has p (g.entries c)). ties.parts c p h) m;
     serial = ties.serial;
   })

@@ -42,6 +42,7 @@ reordered e g held vacant same_held same_vacant ties = record {
   serial = ties.serial;
   outside = λ c out. ties.outside c (λ i. out (record { from_one = i.from_one; within = i.within }));
   works = ties.works;
+  meets = ties.meets;
 }
 
 pub same_ties : (a b : CoreState) (g : Ghost) → IsSame a b → Ties a g → Ties b g

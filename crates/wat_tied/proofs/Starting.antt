@@ -24,7 +24,7 @@ use Rattle.wat_steps.specs.State.{OpenTransaction, ConnectionState, CoreState, P
 use Rattle.wat_steps.specs.Answering.{IsSame, no_changes, transaction_of, with_transaction, opened, answered, with_answer, rolled_back, rolled_back_from}
 use Rattle.wat_steps.specs.Statements.{IsOpen, with_savepoint, back_to, released, saves_from, committed, answer_saying, altered, next_number, Alters, IsSchemaStep, begun, Begins, with_level, with_blocking}
 use Rattle.wat_steps.specs.Step.{Starts, IsRead, closed}
-use Rattle.wat_tied.specs.Tied.{stood_in, GoesWith, IsInside, IsTied, AreStanding, IsIdle, standing_in}
+use Rattle.wat_tied.specs.Tied.{stood_in, GoesWith, IsInside, MeetsWith, IsTied, AreStanding, IsIdle, standing_in}
 use Rattle.wat_tied.proofs.Altered.{altered_tied}
 use Rattle.wat_tied.proofs.Answered.{part_of}
 use Rattle.wat_tied.proofs.Backs.{back_tied}
@@ -84,6 +84,7 @@ module _ (e after : CoreState) (c : ℕ) (tied : IsTied e) (going : e.stop ≡ N
           idle = tied.ties.idle c;
           works = λ on. subst (λ (w : Option Run). GoesWith (schema_of e) (record (e.connections c) { has_ended = true }) w (tied.ghost.work c)) (sym resting)
               (subst (λ (w : Option Run). GoesWith (schema_of e) (e.connections c) w (tied.ghost.work c)) resting (tied.ties.works on c));
+          meets = λ on. tied.ties.meets on c;
           outside = λ out. let is = tied.ties.outside c out in record { no_transaction = is.no_transaction; none_left = is.none_left };
         });
       })
@@ -129,6 +130,7 @@ module _ (e after : CoreState) (c : ℕ) (tied : IsTied e) (going : e.stop ≡ N
         idle = idle_still;
         works = λ on. subst (λ (w : Option Run). GoesWith (schema_of x) k w (now.ghost.work c)) (sym (work ∙ rests))
             (subst (λ (w : Option Run). GoesWith (schema_of x) (x.connections c) w (now.ghost.work c)) rests (now.ties.works on c));
+        meets = λ on. subst (MeetsWith now.ghost.state c) (sym work) (now.ties.meets on c);
         outside = λ out. let is = now.ties.outside c out in record { no_transaction = transaction ∙ is.no_transaction; none_left = left ∙ is.none_left };
       });
     }

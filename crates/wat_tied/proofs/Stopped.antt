@@ -26,6 +26,7 @@ still_tied e g c reason stopped ties k transaction work outside =
       idle = subst (λ (t : Option OpenTransaction). IsIdle (g.state.conns c) (g.entries c) (g.work c) t) (sym transaction) (ties.idle c);
       outside = outside;
       works = λ going. absurd (no_none reason e.stop stopped going);
+      meets = λ going. absurd (no_none reason e.stop stopped going);
     })
 
 stays : (e after : CoreState) (c : ℕ) (a : Progressed) (reason : Reason) (left : List Span) (g : Ghost) → (e.connections c).left ≡ left → e.stop ≡ Some reason → Ties e g → Stays c e reason left a after → Ties after g
@@ -58,6 +59,7 @@ stop_ties e g reason ties = record {
   serial = ties.serial;
   outside = λ c out. ties.outside c (λ i. out (record { from_one = i.from_one; within = i.within }));
   works = λ going. absurd (no_none reason (Some reason) refl going);
+  meets = λ going. absurd (no_none reason (Some reason) refl going);
 }
 
 pub stops_tied : (e after : CoreState) (c : ℕ) (a : Progressed) (reason : Reason) → IsTied e → Stays c (record e { stop = Some reason }) reason (e.connections c).left a after → IsTied after

@@ -5,7 +5,7 @@ use Rattle.wat_scans.specs.Running.{Run}
 use Rattle.wat_steps.specs.State.{ConnectionState, CoreState, schema_of, with_connection}
 use Rattle.wat_steps.specs.Answering.{IsSame}
 use Rattle.wat_steps.specs.Asking.{asking}
-use Rattle.wat_tied.specs.Tied.{AreStanding, standing_in, IsIdle, GoesWith, IsInside, IsAbsent, Ghost, Ties, IsTied}
+use Rattle.wat_tied.specs.Tied.{AreStanding, standing_in, IsIdle, GoesWith, IsInside, IsAbsent, MeetsWith, Ghost, Ties, IsTied}
 use Rattle.wat_tied.proofs.Same.{same_ties}
 
 -- what holds of this connection's new state and of the others' old ones holds of each
@@ -21,6 +21,7 @@ pub record IsTiedConnection (e : CoreState) (g : Ghost) (c : ℕ) (k : Connectio
   pub standing : AreStanding (schema_of e) (standing_in k.transaction k.work) (g.state.conns c).standing
   pub idle : IsIdle (g.state.conns c) (g.entries c) (g.work c) k.transaction
   pub works : e.stop ≡ None → GoesWith (schema_of e) k k.work (g.work c)
+  pub meets : e.stop ≡ None → MeetsWith g.state c k.work
   pub outside : (IsInside e c → ⊥) → IsAbsent k
 
 pub with_tied : (e : CoreState) (g : Ghost) (c : ℕ) (k : ConnectionState) → Ties e g → IsTiedConnection e g c k → Ties (with_connection c k e) g
@@ -36,6 +37,7 @@ with_tied e g c k ties new = record {
   outside = each (λ d x. (IsInside (with_connection c k e) d → ⊥) → IsAbsent x) e c k (λ out. new.outside (λ i. out (record { from_one = i.from_one; within = i.within })))
       (λ d out. ties.outside d (λ i. out (record { from_one = i.from_one; within = i.within })));
   works = λ going. each (λ d x. GoesWith (schema_of e) x x.work (g.work d)) e c k (new.works going) (ties.works going);
+  meets = λ going. each (λ d x. MeetsWith g.state d x.work) e c k (new.meets going) (ties.meets going);
 }
 
 -- ---- waiting
@@ -73,5 +75,6 @@ waiting_tied e after c wants tied same = record {
         idle = tied.ties.idle c;
         outside = λ out. let is = tied.ties.outside c out in record { no_transaction = is.no_transaction; none_left = is.none_left };
         works = λ going. goes_asking e (e.connections c) wants (e.connections c).work tied.ghost c (tied.ties.works going c);
+        meets = λ going. tied.ties.meets going c;
       }));
 }

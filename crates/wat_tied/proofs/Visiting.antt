@@ -2,7 +2,7 @@
 use Rattle.std.proofs.Common.{◌≡◌, ℕ, ◌==◌, nat_le, Bool, true, false, not, ◌||◌, if◌then◌else◌, List, [], ◌∷◌, ◌++◌, map, drop, Option, Some, None, nat_eq, refl, sym, ap, ◌∙◌, subst, ⊎_elim}
 use Rattle.std.proofs.lemmas.Bool.{both_ways, eqb-true}
 use Rattle.wat_list.specs.Has.{Has}
-use Rattle.wat_list.proofs.Members.{has_right}
+use Rattle.wat_list.proofs.Members.{has_left, has_right}
 use Rattle.wat_value.specs.declared.value.Value.{Value}
 use Rattle.wat_value.specs.declared.place.Place.{Place}
 use Rattle.wat_value.specs.declared.place.Place.TheVariants.{At, End}
@@ -68,7 +68,7 @@ same_wants level h visit =
 
 -- ---- the visit's row
 
-primary_is : (c : Catalog) (p : ScanPlan) (step : PlanStep) → listing_at c (listing_of_step p step).def.number ≡ Some (listing_of_step p step) → (key : List Value) → primary_in p step key ≡ (owner_in c (index_of_step p step) key).key
+pub primary_is : (c : Catalog) (p : ScanPlan) (step : PlanStep) → listing_at c (listing_of_step p step).def.number ≡ Some (listing_of_step p step) → (key : List Value) → primary_in p step key ≡ (owner_in c (index_of_step p step) key).key
 unfolding owner_in
 primary_is c p step at key = ap (λ o. drop (width_before (index_of_step p step) o) key) (sym at)
 
@@ -83,7 +83,7 @@ module _ (e : CoreState) (s : law.State sql) (k : Relates e s) (kept : Kept sql 
   abbrev begun : law.State sql
   begun = law.happens sql s (law.Event.Begin_scan c i (cut_below scan.from))
 
-  reading : IsReadIn e s begun c (logs.Item.Saw part) e.held
+  reading : IsReadIn e s begun c (logs.Item.Saw part) [] e.held
   reading = begun_reading e s k kept c i (cut_below scan.from) (places.is_cut_below scan.from)
 
   fewer_begun : AreHeld begun held
@@ -94,8 +94,8 @@ module _ (e : CoreState) (s : law.State sql) (k : Relates e s) (kept : Kept sql 
       → law.happens sql begun event ≡ law.with_conn sql begun c (law.grown sql begun c (item ∷ (s.conns c).log) (begun.conns c).standing (long_locks wants))
       → ((r : RowName) (o : Option Row) → logs.Version sql r o (item ∷ (s.conns c).log) ≡ logs.Version sql r o (s.conns c).log)
       → law.May sql begun event → AreHeld (law.happens sql begun event) (held ++ map (entry c) wants)
-      → IsReadIn e s (law.happens sql begun event) c item (held ++ map (entry c) wants)
-  second wants item event is same may locks = subst (λ (t : law.State sql). IsReadIn e s t c item (held ++ map (entry c) wants)) (sym is) (record {
+      → IsReadIn e s (law.happens sql begun event) c item wants (held ++ map (entry c) wants)
+  second wants item event is same may locks = subst (λ (t : law.State sql). IsReadIn e s t c item wants (held ++ map (entry c) wants)) (sym is) (record {
     kept = subst (Kept sql) is (event_keeps sql begun event reading.kept may);
     relates = record {
       scheme = reading.relates.scheme;
@@ -111,7 +111,9 @@ module _ (e : CoreState) (s : law.State sql) (k : Relates e s) (kept : Kept sql 
     standing = ap (λ (z : law.Connection sql). z.standing) here ∙ reading.standing;
     others = λ d ne. put-other nat_eq nat_same begun.conns c new d ne ∙ reading.others d ne;
     now = reading.now;
+    base = reading.base;
     locks = λ m h. subst (λ (z : law.Connection sql). Has m z.locks) (sym here) (has_right m (long_locks wants) (begun.conns c).locks (reading.locks m h));
+    gets = λ m h. subst (λ (z : law.Connection sql). Has m z.locks) (sym here) (has_left m (long_locks wants) (begun.conns c).locks h);
   })
     where
       new : law.Connection sql
@@ -123,7 +125,7 @@ module _ (e : CoreState) (s : law.State sql) (k : Relates e s) (kept : Kept sql 
   -- a position of the interval
   inside : (visit : Visit) (key : List Value) (row : Option Row) → AreFree e.held c (visit_wants 3 visit) → visit.table ≡ i.table → visit.index ≡ i.index → visit.place ≡ At key → visit.row ≡ Some (primary_in p scan.step key) → visit.past ≡ false
       → IsFirstFrom e i scan.from (At key) → IsRowAt (schema_of e) (look e.now) i (At key) row
-      → (t : law.State sql) × IsReadIn e s t c (logs.Item.Saw (part_inside p scan key row)) (held ++ map (entry c) (visit_wants 3 visit))
+      → (t : law.State sql) × IsReadIn e s t c (logs.Item.Saw (part_inside p scan key row)) (visit_wants 3 visit) (held ++ map (entry c) (visit_wants 3 visit))
   inside visit key row free table index place at past first here =
       let event : law.Event sql = law.Event.Visit c part (s.conns c).log key (listed key row) (long_locks (visit_wants 3 visit)) in
       let finds : FindsPosition begun c part (s.conns c).log key (listed key row) = record {
@@ -149,7 +151,7 @@ module _ (e : CoreState) (s : law.State sql) (k : Relates e s) (kept : Kept sql 
   -- past the interval
   outside : (visit : Visit) (place : Place) → AreFree e.held c (visit_wants 3 visit) → visit.table ≡ i.table → visit.index ≡ i.index → visit.place ≡ place → visit.past ≡ true
       → IsFirstFrom e i scan.from place → is_inside scan place ≡ false
-      → (t : law.State sql) × IsReadIn e s t c (logs.Item.Saw (part_past p scan)) (held ++ map (entry c) (visit_wants 3 visit))
+      → (t : law.State sql) × IsReadIn e s t c (logs.Item.Saw (part_past p scan)) (visit_wants 3 visit) (held ++ map (entry c) (visit_wants 3 visit))
   outside visit place free table index at past first out =
       let q : law.Place sql = position_of place in
       let first_q : IsFirstFrom e i scan.from (place_of q) = subst (IsFirstFrom e i scan.from) (sym (place_back place)) first in
@@ -177,16 +179,16 @@ module _ (e : CoreState) (s : law.State sql) (k : Relates e s) (kept : Kept sql 
   visit_at row place = visit_of p writes scan ts (record { place = place; row = row })
 
   visited_at : (row : Option Row) (key : List Value) (b : Bool) → is_below scan.interval.upper key ≡ b → IsFirstFrom e i scan.from (At key) → (b ≡ true → IsRowAt (schema_of e) (look e.now) i (At key) row) → AreFree e.held c (visit_wants 3 (visit_at row (At key)))
-      → (t : law.State sql) × IsReadIn e s t c (logs.Item.Saw (if b then part_inside p scan key row else part_past p scan)) (held ++ map (entry c) (visit_wants 3 (visit_at row (At key))))
+      → (t : law.State sql) × IsReadIn e s t c (logs.Item.Saw (if b then part_inside p scan key row else part_past p scan)) (visit_wants 3 (visit_at row (At key))) (held ++ map (entry c) (visit_wants 3 (visit_at row (At key))))
   visited_at row key true low first here free = inside (visit_at row (At key)) key row free refl refl refl refl (ap not low) first (here refl)
   visited_at row key false low first here free = outside (visit_at row (At key)) (At key) free refl refl refl (ap not low) first low
 
   by_place : (row : Option Row) (place : Place) → IsFirstFrom e i scan.from place → (is_inside scan place ≡ true → IsRowAt (schema_of e) (look e.now) i place row) → AreFree e.held c (visit_wants 3 (visit_at row place))
-      → (t : law.State sql) × IsReadIn e s t c (logs.Item.Saw (part_at p scan row place)) (held ++ map (entry c) (visit_wants 3 (visit_at row place)))
+      → (t : law.State sql) × IsReadIn e s t c (logs.Item.Saw (part_at p scan row place)) (visit_wants 3 (visit_at row place)) (held ++ map (entry c) (visit_wants 3 (visit_at row place)))
   by_place row End first here free = outside (visit_at row End) End free refl refl refl refl first refl
   by_place row (At key) first here free = visited_at row key (is_below scan.interval.upper key) refl first here free
 
   pub visit_read : (seen : Seen) → IsSeen e i scan seen → AreFree e.held c (visit_wants 3 (visit_of p writes scan ts seen))
-      → (t : law.State sql) × IsReadIn e s t c (logs.Item.Saw (part_of p scan seen)) (held ++ map (entry c) (visit_wants 3 (visit_of p writes scan ts seen)))
+      → (t : law.State sql) × IsReadIn e s t c (logs.Item.Saw (part_of p scan seen)) (visit_wants 3 (visit_of p writes scan ts seen)) (held ++ map (entry c) (visit_wants 3 (visit_of p writes scan ts seen)))
   unfolding part_of
   visit_read seen sees free = by_place seen.row seen.place sees.first sees.row free

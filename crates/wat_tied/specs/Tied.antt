@@ -1,16 +1,20 @@
 -- How the state of the core is tied to a state of the law of isolation.
-use Rattle.std.specs.Prelude.{◌≡◌, ℕ, ◌≤◌, nat_le, true, is_some, slice_get, List, [], ◌∷◌, ◌++◌, map, reverse, Option, Some, None, Ok}
-use Rattle.wat_list.specs.Has.{Has}
+use Rattle.std.specs.Prelude.{◌≡◌, ℕ, ◌≤◌, nat_le, true, false, is_some, slice_get, List, [], ◌∷◌, ◌++◌, map, reverse, Option, Some, None, Ok}
+use Rattle.wat_list.specs.Has.{Has, IsOnce}
 use Rattle.wat_value.specs.declared.change.Change.{Change}
-use Rattle.wat_value.specs.Changes.{RowName, row_before, row_after}
+use Rattle.wat_value.specs.Bounds.{is_above}
+use Rattle.wat_value.specs.Changes.{RowName, row_name, row_before, row_after}
+use Rattle.wat_value.specs.Fits.{fits, key_of}
 use Rattle.wat_ast.specs.declared.statement.Statement.{Statement}
-use Rattle.wat_schema.specs.Catalog.{Catalog}
+use Rattle.wat_schema.specs.Catalog.{Catalog, Listing}
 use Rattle.wat_schema.specs.Stored.{IsCatalog}
 use Rattle.wat_schema.specs.Tables.{Row, Tables, inverse, apply_all}
 use Rattle.wat_parse.specs.declared.script.Span.{Span}
 use Rattle.wat_parse.specs.Parsing.{parsed_at}
 use Rattle.wat_rules.specs.Check.{check}
-use Rattle.wat_meaning.specs.Standing.{change_fits}
+use Rattle.wat_expr.specs.Evaluation.{Combination}
+use Rattle.wat_meaning.specs.Meaning.{sole_row}
+use Rattle.wat_meaning.specs.Standing.{combination_fits, change_fits}
 use Rattle.wat_isolation.specs.Logs.{Item, Item.Saw, Item.Did, Item.Looked, Item.Peeked, Alone, view}
 use Rattle.wat_isolation.specs.Machine as law
 use Rattle.wat_isolation.specs.Kept.{Kept}
@@ -18,17 +22,19 @@ use Rattle.wat_isolation.specs.Naming.{scheme_of}
 use Rattle.wat_isolation.specs.Sql.{sql}
 use Rattle.wat_isolation.specs.Vacant as vacancy
 use Rattle.wat_protocol.specs.Locked.{AreHeld}
-use Rattle.wat_plan.specs.Plans.{ScanPlan}
+use Rattle.wat_plan.specs.Plans.{ScanPlan, listing_of_step}
 use Rattle.wat_scans.specs.declared.scan.Scan.{Scan}
 use Rattle.wat_scans.specs.declared.scan.Taken.{Taken}
 use Rattle.wat_scans.specs.Look.{IsOf}
-use Rattle.wat_scans.specs.Running.{Run, items_of, row_changed}
-use Rattle.wat_scans.specs.Scans.{Progress}
+use Rattle.wat_scans.specs.Recorded.{IsAt, AreTaken}
+use Rattle.wat_scans.specs.Running.{Run, items_of, row_changed, defs_of}
+use Rattle.wat_scans.specs.Scans.{Progress, step_key}
 use Rattle.wat_scans.specs.Told.{IsStepped, IsUnderWay}
 use Rattle.wat_history.specs.Connection.{Part}
 use Rattle.wat_history.specs.History.{Commit}
 use Rattle.wat_history.specs.Serial.{Means, Serial}
 use Rattle.wat_steps.specs.State.{OpenTransaction, ConnectionState, VacantKey, CoreState, schema_of}
+use Rattle.wat_steps.specs.Visiting.{writes_rows}
 
 -- ---- rows, locks and vacant keys
 
@@ -141,6 +147,44 @@ abbrev pub GoesWith : Catalog → ConnectionState → Option Run → List (Item 
 GoesWith c k None items = items ≡ []
 GoesWith c k (Some run) items = IsGoing c k run items
 
+-- ---- what a statement has met
+
+-- The scans under way are at their depths in the plan, over the intervals that the rows outside them give. The rows that are taken fit, and so
+-- do those of each combination that passed.
+pub record IsMeeting (p : ScanPlan) (w : Progress) : Type 0 where
+  pub at : IsAt p w.scan w.taken
+  pub outside : AreTaken p w.taken
+  pub taken : (t : Taken) → Has t w.taken → fits (listing_of_step p t.scan.step).def t.row ≡ true
+  pub met : (d : Combination) → Has d w.met → combination_fits (defs_of p) d ≡ true
+
+-- none of the changes is of this row
+abbrev pub IsUnchanged : List Change → Row → Type 0
+IsUnchanged made row = (change : Change) → Has change made → row_before change ≡ Some row → ⊥
+
+-- A row to be updated or deleted: the connection holds Write on it, and until it is changed it stands as it was met.
+pub record IsAimedAt (s : law.State sql) (c : ℕ) (l : Listing) (made : List Change) (row : Row) : Type 0 where
+  pub write : Has (law.Lock.Write (row_name l.def row)) (s.conns c).locks
+  pub stands : IsUnchanged made row → s.now (row_name l.def row) ≡ Some row
+
+-- The rows that an UPDATE or DELETE has met, each once; the scan goes on behind them.
+pub record AreAims (s : law.State sql) (c : ℕ) (p : ScanPlan) (l : Listing) (made : List Change) (w : Progress) : Type 0 where
+  pub each : (d : Combination) → Has d w.met → (row : Row) × (d ≡ Some row ∷ []) × IsAimedAt s c l made row
+  pub once : IsOnce (map (λ d. key_of l.def (sole_row d)) w.met)
+  pub before : (scan : Scan) → w.scan ≡ Some scan → (d : Combination) → Has d w.met → is_above scan.from (step_key p scan.step d) ≡ false
+
+pub record HasMet (s : law.State sql) (c : ℕ) (run : Run) (w : Progress) : Type 0 where
+  pub meeting : IsMeeting run.task.plan w
+  pub aims : writes_rows run.task.statement ≡ true → (l : Listing) → run.task.plan.sources ≡ l ∷ [] → AreAims s c run.task.plan l run.made w
+
+abbrev pub HasMetSo : law.State sql → ℕ → Run → Option Progress → Type 0
+HasMetSo s c run None = Unit {0}
+HasMetSo s c run (Some w) = HasMet s c run w
+
+-- at every level, whatever the other connections did since then
+abbrev pub MeetsWith : law.State sql → ℕ → Option Run → Type 0
+MeetsWith s c None = Unit {0}
+MeetsWith s c (Some run) = HasMetSo s c run run.progress
+
 -- ---- the whole
 
 -- What stands beside the core's state: a state of the law of isolation; of each connection the entries of its open transaction, the last one first,
@@ -178,6 +222,7 @@ pub record Ties (e : CoreState) (g : Ghost) : Type 0 where
   pub outside : (c : ℕ) → (IsInside e c → ⊥) → IsAbsent (e.connections c)
   -- until a stop
   pub works : e.stop ≡ None → (c : ℕ) → GoesWith (schema_of e) (e.connections c) (e.connections c).work (g.work c)
+  pub meets : e.stop ≡ None → (c : ℕ) → MeetsWith g.state c (e.connections c).work
 
 -- such a ghost stands beside the core's state
 pub record IsTied (e : CoreState) : Type 0 where

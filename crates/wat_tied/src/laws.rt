@@ -1,4 +1,4 @@
-ghost use Rattle.std.specs.Prelude.{◌≡◌, ℕ, nat_le, true, [], ◌∷◌, List, None, Some, Ok};
+ghost use Rattle.std.specs.Prelude.{◌≡◌, ℕ, [], ◌∷◌, List, None, Some, Ok};
 ghost use Rattle.wat_value.specs.declared.change.Change.{Change};
 ghost use Rattle.wat_value.specs.Changes.{changed_table, row_before};
 ghost use Rattle.wat_value.specs.Indexes.{index_numbers};
@@ -39,8 +39,8 @@ ghost use Rattle.wat_steps.specs.Answering.{IsSame, answered, opened, rolled_bac
 ghost use Rattle.wat_steps.specs.Asking.{asking, refused, broken_off};
 ghost use Rattle.wat_steps.specs.Statements.{begun, back_to, committed, next_number, answer_saying, altered};
 ghost use Rattle.wat_steps.specs.Visiting.{IsSeen, wants_of, visited};
-ghost use Rattle.wat_steps.specs.Step.{IsStep, Stays, replied, closed};
-ghost use Rattle.wat_tied.specs.Ready.{IsReadyFor, IsReady, RunsReady, RunsAtThree};
+ghost use Rattle.wat_steps.specs.Step.{IsStep, Runs, Stays, replied, closed};
+ghost use Rattle.wat_tied.specs.Ready.{IsReadyFor};
 ghost use Rattle.wat_tied.specs.Tied.{IsFormed, IsTied, parts_in};
 
 /// Where the core is tied to the law of isolation, its committed transactions are serial, and each open one follows on
@@ -118,19 +118,18 @@ pub fn end_law()
         → IsSame (altered c moment (answer_saying (next_number e) (meaning e.now written).answer) (meaning e.now written).acts t e) after → IsTied after }
 {}
 
-/// Every step leaves the core tied, and so does every list of steps from the beginning, whatever the connections are asked and whichever of them
-/// goes on: visits, changes, answers, waits, ends, stops. Each change is ready when it comes: it is formed, and its row is now as it finds it.
+/// Every step leaves the core tied, and so does every list of steps from the beginning, whatever the connections are asked, at whichever levels, and
+/// whichever of them goes on: visits, changes, answers, waits, ends, stops. Then the commits are serial at level 3, and what each connection
+/// has open follows on them.
 pub fn steps_keep_tied()
-    ensures step { (e after : CoreState) (c : ℕ) (a : Progressed) → IsTied e → IsReady e c → IsStep e c a after → IsTied after }
-    ensures runs { (base : Tables) (scripts : List (List ℕ)) → IsTables base → (steps : List ℕ) (last : CoreState) → RunsReady (fresh base scripts) steps last → IsTied last }
-    // Where all changes come at level 3 nothing else is asked.
-    ensures at_three { (base : Tables) (scripts : List (List ℕ)) → IsTables base → (steps : List ℕ) (last : CoreState) → RunsAtThree (fresh base scripts) steps last → IsTied last }
-    ensures serial { (base : Tables) (scripts : List (List ℕ)) → IsTables base → (steps : List ℕ) (last : CoreState) → RunsAtThree (fresh base scripts) steps last
+    ensures step { (e after : CoreState) (c : ℕ) (a : Progressed) → IsTied e → IsStep e c a after → IsTied after }
+    ensures runs { (base : Tables) (scripts : List (List ℕ)) → IsTables base → (steps : List ℕ) (last : CoreState) → Runs (fresh base scripts) steps last → IsTied last }
+    ensures serial { (base : Tables) (scripts : List (List ℕ)) → IsTables base → (steps : List ℕ) (last : CoreState) → Runs (fresh base scripts) steps last
         → (history : List Commit) × Serial 3 base history last.committed × ((c : ℕ) → (parts : List Part) × (after : Tables) × Follows 3 last.committed parts after) }
 {}
 
-/// At level 3 the next change of a statement is ready: its rows fit, and a row that it updates or deletes is now as it was met, whatever the other
+/// At every level the next change of a statement is ready: its rows fit, and a row that it updates or deletes is now as it was met, whatever the other
 /// connections did since then.
-pub fn read_law()
-    ensures { (e : CoreState) (c : ℕ) (run : Run) → IsTied e → e.stop ≡ None → (e.connections c).work ≡ Some run → nat_le 3 run.level ≡ true → (change : Change) → next run ≡ ToChange change → IsReadyFor e change }
+pub fn ready_law()
+    ensures { (e : CoreState) (c : ℕ) (run : Run) → IsTied e → e.stop ≡ None → (e.connections c).work ≡ Some run → (change : Change) → next run ≡ ToChange change → IsReadyFor e change }
 {}

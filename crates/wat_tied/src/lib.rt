@@ -4,6 +4,6 @@
 mod laws;
 
 pub use laws::{
-    answer_law, begun_law, change_law, end_law, quiet_law, read_law, steps_keep_tied, tied_laws,
+    answer_law, begun_law, change_law, end_law, quiet_law, ready_law, steps_keep_tied, tied_laws,
     visit_law,
 };
