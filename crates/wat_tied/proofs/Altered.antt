@@ -1,5 +1,5 @@
 -- CREATE and DROP leave the core tied: while no transaction is open, they are committed at once.
-use Rattle.std.proofs.Common.{◌≡◌, ℕ, is_some, List, [], ◌∷◌, ◌++◌, reverse, Option, Some, None, Ok, refl, sym, ap, ◌∙◌, subst, ⊎_elim}
+use Rattle.std.proofs.Common.{◌≡◌, ℕ, true, is_some, List, [], ◌∷◌, ◌++◌, reverse, Option, Some, None, Ok, refl, sym, ap, ◌∙◌, subst, inr, ⊎_elim}
 use Rattle.std.proofs.lemmas.Bool.{both_ways, cases_eq}
 use Rattle.wat_list.specs.Has.{Has}
 use Rattle.wat_value.specs.declared.change.Act.{Act}
@@ -14,6 +14,7 @@ use Rattle.wat_isolation.specs.Machine as law
 use Rattle.wat_isolation.specs.Naming.{scheme_of}
 use Rattle.wat_isolation.specs.Sql.{sql}
 use Rattle.wat_isolation.proofs.Whole.{event_keeps}
+use Rattle.wat_rules.specs.Changes.{changes_schema}
 use Rattle.wat_meaning.specs.declared.reply.Reply.{Reply as Meant}
 use Rattle.wat_meaning.specs.declared.reply.Reply.TheVariants as meant_reply
 use Rattle.wat_meaning.specs.Meaning.{meaning}
@@ -25,9 +26,12 @@ use Rattle.wat_history.proofs.SerialLemmas.{grows}
 use Rattle.wat_scans.specs.Look.{look, IsOf}
 use Rattle.wat_scans.specs.Running.{Run}
 use Rattle.wat_steps.specs.State.{ConnectionState, CoreState, schema_of}
-use Rattle.wat_steps.specs.Statements.{answer_saying, altered}
-use Rattle.wat_tied.specs.Tied.{AreStanding, stood_in, made_in, standing_in, GoesWith, IsIdle, IsInside, IsAbsent, MeetsWith, Ghost, Ties, IsTied}
+use Rattle.wat_steps.specs.Statements.{answer_saying, next_number, altered}
+use Rattle.wat_tied.specs.Tied.{AreStanding, parts_in, stood_in, made_in, standing_in, GoesWith, IsIdle, IsInside, IsAbsent, MeetsWith, Ghost, Ties, IsTied}
+use Rattle.wat_tied.specs.Told.{stands_told, commits_told, IsTold, IsHistoryTold}
 use Rattle.wat_tied.proofs.Alike.{alike}
+use Rattle.wat_tied.proofs.Schemes.{IsMade, opens_none, made_commits, made_done}
+use Rattle.wat_tied.proofs.Telling.{commits_next, told_idles, none_open, history_goes_on}
 use Rattle.wat_tied.proofs.Renewed.{has_work}
 use Rattle.wat_tied.proofs.Answered.{done, done_here, done_there, part_of}
 
@@ -41,12 +45,15 @@ says_it number meant_reply.Dropped other h = cc
 says_it number (meant_reply.Refused refusal) other h = cc
 
 module _ (e : CoreState) (g : Ghost) (ties : Ties e g) (c : ℕ) (going : e.stop ≡ None) (closed : (d : ℕ) → (e.connections d).transaction ≡ None) (span : Span) (more : List Span) (first : (e.connections c).left ≡ span ∷ more)
-    (written : Statement) (read : parsed_at (e.connections c).script span ≡ Ok written) (number moment : ℕ) (t : Tables) (applies : apply_all (meaning e.now written).acts e.now ≡ Some t) where
+    (written : Statement) (read : parsed_at (e.connections c).script span ≡ Ok written) (schema : changes_schema written ≡ true) (made : IsMade (meaning e.now written).answer) (moment : ℕ) (t : Tables) (applies : apply_all (meaning e.now written).acts e.now ≡ Some t) where
   abbrev s : law.State sql
   s = g.state
 
   abbrev acts : List Act
   acts = (meaning e.now written).acts
+
+  abbrev number : ℕ
+  number = next_number e
 
   abbrev answer : Answer
   answer = answer_saying number (meaning e.now written).answer
@@ -123,6 +130,35 @@ module _ (e : CoreState) (g : Ghost) (ties : Ties e g) (c : ℕ) (going : e.stop
       (λ (ne : d ≡ c → ⊥). subst IsAbsent (sym (done_there c d mid answer acts ne)) (ties.outside d out))
       (cases_eq d c)
 
+  -- ---- what the transcripts tell
+
+  here_is : after.connections c ≡ k
+  here_is = done_here c mid (e.connections c) span more answer acts refl first
+
+  told_k : IsTold k []
+  told_k = told_idles (e.connections c) k span answer acts refl refl more first (parts_in (g.entries c)) (ties.told c) refl written read (made_done number (meaning e.now written).answer made) (opens_none written schema)
+      (none_open (e.connections c) (parts_in (g.entries c)) (ties.told c) ((ties.told c).goes span more first) (rests c) (closed c)) (closed c)
+
+  told_each : (d : ℕ) → IsTold (after.connections d) []
+  told_each d = ⊎_elim
+      (λ (m : d ≡ c). subst (λ n. IsTold (after.connections n) []) (sym m) (subst (λ (z : ConnectionState). IsTold z []) (sym here_is) told_k))
+      (λ (ne : d ≡ c → ⊥). subst (λ (z : ConnectionState). IsTold z []) (sym (done_there c d mid answer acts ne))
+      (subst (λ z. IsTold (e.connections d) (parts_in z)) (subst (IsIdle (s.conns d) (g.entries d) (g.work d)) (closed d) (ties.idle d)).1 (ties.told d)))
+      (cases_eq d c)
+
+  told_history : IsHistoryTold after (g.history ++ commit ∷ [])
+  told_history = history_goes_on e after c refl (λ d ne. done_there c d mid answer acts ne) g.history (g.history ++ commit ∷ [])
+      (inr (
+        commit,
+        moment,
+        ap commits_told here_is ∙ (commits_next (e.connections c) k span answer acts refl refl ∙ ap (λ z. commits_told (e.connections c) ++ z) (made_commits number (meaning e.now written).answer made (stands_told (e.connections c)) part)),
+        refl,
+        refl,
+        refl,
+        λ out. has_work e g ties c span more first (λ i. out (i.from_one, i.within)),
+      ))
+      ties.history
+
   pub altered_tied : IsTied after
   altered_tied = record {
     ghost = record { state = then_law; entries = λ d. []; work = λ d. []; history = g.history ++ commit ∷ [] };
@@ -144,6 +180,8 @@ module _ (e : CoreState) (g : Ghost) (ties : Ties e g) (c : ℕ) (going : e.stop
       idle = λ d. subst (IsIdle (s.conns d) [] []) (sym (closed_then d)) (idle d, refl, refl);
       parts = λ d p m. absurd m;
       serial = serial;
+      told = told_each;
+      history = told_history;
       outside = λ d out. absent_then d (λ i. out (record { from_one = i.from_one; within = i.within }));
       works = λ on d. subst (λ (z : Option Run). GoesWith (catalog_of t) (after.connections d) z []) (sym (rests_then d)) refl;
       meets = λ on d. subst (MeetsWith then_law d) (sym (rests_then d)) tt;

@@ -1,5 +1,5 @@
 -- A statement's answer in the core, and what its entry means.
-use Rattle.std.proofs.Common.{◌≡◌, ℕ, nat_le, Bool, true, false, ◌||◌, List, [], ◌∷◌, ◌++◌, Option, Some, None, Ok, refl, sym, ap, ◌∙◌, subst}
+use Rattle.std.proofs.Common.{◌≡◌, ℕ, nat_le, Bool, true, false, ◌||◌, List, ◌∷◌, Option, Some, None, Ok, refl, sym, ap, ◌∙◌, subst}
 use Rattle.wat_value.specs.declared.change.Act.{Act}
 use Rattle.wat_value.specs.Changes.{RowName}
 use Rattle.wat_ast.specs.declared.statement.Statement.{Statement}
@@ -20,7 +20,7 @@ use Rattle.wat_isolation.specs.Machine as law
 use Rattle.wat_isolation.specs.Naming.{scheme_of}
 use Rattle.wat_isolation.specs.Sql.{sql}
 use Rattle.wat_conn.specs.declared.answer.Answer.{Answer}
-use Rattle.wat_history.specs.Connection.{Part}
+use Rattle.wat_history.specs.Connection.{Part, opens}
 use Rattle.wat_history.specs.Serial.{says, Means}
 use Rattle.wat_scans.specs.Look.{IsOf}
 use Rattle.wat_scans.specs.Running.{Run}
@@ -30,11 +30,8 @@ use Rattle.wat_steps.specs.Answering.{entry_at, with_answer, answered}
 use Rattle.wat_tied.specs.Tied.{IsGoing, Relates}
 use Rattle.wat_tied.proofs.Begun.{here}
 use Rattle.wat_tied.proofs.Granted.{there}
+pub use Rattle.wat_tied.proofs.Quiet.{done}
 use Rattle.wat_tied.proofs.Quiet.{long_held}
-
--- the connection after an answer to the first statement that was left
-abbrev pub done : Span → List Span → ConnectionState → Answer → List Act → ConnectionState
-done span more k answer acts = record k { left = more; transcript = k.transcript ++ entry_at span k.level answer acts ∷ []; work = None; request = None }
 
 pub done_here : (c : ℕ) (e : CoreState) (k : ConnectionState) (span : Span) (more : List Span) (answer : Answer) (acts : List Act) → e.connections c ≡ k → k.left ≡ span ∷ more → (answered c e answer acts).connections c ≡ done span more k answer acts
 done_here c e k span more answer acts is first =
@@ -63,6 +60,28 @@ unfolding check
 no_schema c written statement checked stepped = by written (stepped_kind c (placed_statement c written) statement (first (refusals c written)) checked stepped)
   where
     by : (x : Statement) → IsStepped (placed_statement c x) → changes_schema x ≡ false
+    by (s.CreateTable a b) h = absurd h
+    by (s.CreateIndex a b d) h = absurd h
+    by (s.DropTable a) h = absurd h
+    by (s.Insert a b d) h = refl
+    by (s.Update a b d) h = refl
+    by (s.Delete a b) h = refl
+    by (s.Select a) h = refl
+    by s.Commit h = absurd h
+    by s.Rollback h = absurd h
+    by s.Checkpoint h = absurd h
+    by (s.Savepoint a) h = absurd h
+    by (s.RollbackTo a) h = absurd h
+    by (s.Release a) h = absurd h
+    by (s.SetLevel a) h = absurd h
+    by (s.SetBlocking a) h = absurd h
+
+-- and opens a transaction where none is open
+pub opens_written : (c : Catalog) (written statement : Statement) → check c written ≡ Ok statement → IsStepped statement → opens written ≡ true
+unfolding check
+opens_written c written statement checked stepped = by written (stepped_kind c (placed_statement c written) statement (first (refusals c written)) checked stepped)
+  where
+    by : (x : Statement) → IsStepped (placed_statement c x) → opens x ≡ true
     by (s.CreateTable a b) h = absurd h
     by (s.CreateIndex a b d) h = absurd h
     by (s.DropTable a) h = absurd h

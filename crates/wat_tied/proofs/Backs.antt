@@ -1,5 +1,5 @@
 -- ROLLBACK TO SAVEPOINT leaves the core tied.
-use Rattle.std.proofs.Common.{◌≡◌, ℕ, List, [], ◌∷◌, ◌++◌, map, reverse, take, drop, unwrap_or, Option, Some, None, refl, sym, ap, ◌∙◌, subst, inl, inr, ⊎_elim}
+use Rattle.std.proofs.Common.{◌≡◌, ℕ, List, [], ◌∷◌, ◌++◌, map, reverse, take, drop, unwrap_or, true, Option, Some, None, Ok, refl, sym, ap, ◌∙◌, subst, inl, inr, ⊎_elim}
 use Rattle.std.specs.Option.{option_and_then}
 use Rattle.std.proofs.lemmas.List.{reverse-append, append-nil, append_assoc, take-append-drop}
 use Rattle.wat_list.specs.Has.{Has}
@@ -21,6 +21,9 @@ use Rattle.wat_meaning.specs.declared.reply.Reply.{Reply as Meant}
 use Rattle.wat_conn.specs.declared.answer.Answer.{Answer}
 use Rattle.wat_conn.specs.declared.answer.Answer.TheVariants.{Given}
 use Rattle.wat_conn.specs.declared.answer.Reply.TheVariants as reply
+use Rattle.wat_ast.specs.declared.statement.Statement.{Statement}
+use Rattle.wat_parse.specs.Parsing.{parsed_at}
+use Rattle.wat_history.specs.Connection.{opens}
 use Rattle.wat_history.specs.Serial.{Serial}
 use Rattle.wat_scans.specs.Look.{IsOf}
 use Rattle.wat_scans.specs.Running.{row_changed}
@@ -29,13 +32,14 @@ use Rattle.wat_steps.specs.State.{OpenTransaction, ConnectionState, CoreState, s
 use Rattle.wat_steps.specs.Changing.{undone}
 use Rattle.wat_steps.specs.Answering.{no_changes, answered, transaction_of, with_transaction}
 use Rattle.wat_steps.specs.Statements.{cut_to, undoing, back_to}
-use Rattle.wat_tied.specs.Tied.{IsFormed, AreStanding, RecordedPart, IsDetermined, items_in, stood_in, standing_in, made_in, Ghost, Ties, IsTied}
+use Rattle.wat_tied.specs.Tied.{IsFormed, AreStanding, RecordedPart, IsDetermined, items_in, parts_in, stood_in, standing_in, made_in, Ghost, Ties, IsTied}
 use Rattle.wat_tied.proofs.Answered.{done, done_here, done_there, answered_relates, part_of}
 use Rattle.wat_tied.proofs.Begun.{here}
 use Rattle.wat_tied.proofs.Entered.{no_work}
 use Rattle.wat_tied.proofs.Granted.{there}
 use Rattle.wat_tied.proofs.Keys as keys
 use Rattle.wat_tied.proofs.Renewed.{rows_stay, renewed, renewal, has_work}
+use Rattle.wat_tied.proofs.Telling.{no_commit, told_joins}
 use Rattle.wat_tied.proofs.Undone.{undo_items, IsUndone, undo_all}
 
 abbrev back_act : Change → Act
@@ -65,7 +69,7 @@ undo_makes c f (ch ∷ changes) formed base t alone is =
     record { after = r.after; applies = ap (option_and_then (apply_all (map back_act changes))) a.applies ∙ r.applies; is = subst (λ z. IsOf c (view sql f z) r.after) (sym list_is) r.is }
 
 module _ (e : CoreState) (g : Ghost) (ties : Ties e g) (c : ℕ) (going : e.stop ≡ None) (resting : (e.connections c).work ≡ None) (span : Span) (more : List Span) (first : (e.connections c).left ≡ span ∷ more)
-    (save : Name × ℕ) (earlier : List (Name × ℕ)) where
+    (save : Name × ℕ) (earlier : List (Name × ℕ)) (written : Statement) (read : parsed_at (e.connections c).script span ≡ Ok written) (opening : opens written ≡ true) where
   abbrev cat : Catalog
   cat = schema_of e
 
@@ -145,6 +149,8 @@ module _ (e : CoreState) (g : Ghost) (ties : Ties e g) (c : ℕ) (going : e.stop
           meets = λ on. tt;
           parts = λ p m. ⊎_elim (λ (h : recorded ≡ p). subst (IsDetermined cat) h (determined (λ ch has. all.formed ch (has_left ch gone (reverse (take n standing)) has)))) (λ (h : Has p (g.entries c)). ties.parts c p h) m;
           serial = subst (λ (z : CoreState). Serial 3 z.base g.history z.committed) b.others_same ties.serial;
+          told = told_joins (e.connections c) k span answer acts refl refl more first (parts_in (g.entries c)) (ties.told c) refl written read refl refl (inl opening) refl;
+          commits = inl (no_commit (e.connections c) k span answer acts refl refl (λ d p. refl), refl, sym (ap (λ (z : CoreState). z.moments) b.others_same));
         });
       }
 

@@ -1,5 +1,7 @@
 -- The core is tied where nothing is done.
-use Rattle.std.proofs.Common.{◌≡◌, ℕ, zero, suc, ◌<◌, List, [], ◌∷◌, length, Option, Some, None, refl, sym, subst, arith}
+use Rattle.std.proofs.Common.{◌≡◌, ℕ, zero, suc, ◌+◌, ◌<◌, List, [], ◌∷◌, ◌++◌, length, Option, Some, None, IsPermutation, refl, sym, ap, ◌∙◌, subst, arith}
+use Rattle.std.specs.List.{flat_map, range_with_len}
+use Rattle.std.proofs.lemmas.List.Sorted.{IsPermutation-refl}
 use Rattle.std.specs.Prelude.{slice_get}
 use Rattle.wat_schema.specs.Tables.{Tables, IsTables, catalog_of}
 use Rattle.wat_isolation.specs.Machine as law
@@ -8,6 +10,8 @@ use Rattle.wat_isolation.specs.Sql.{sql}
 use Rattle.wat_isolation.proofs.Whole.{all_hold}
 use Rattle.wat_scans.specs.Look.{look, IsOf}
 use Rattle.wat_steps.specs.Fresh.{connection_with, script_of, fresh}
+use Rattle.wat_parse.specs.declared.script.Span.{Span}
+use Rattle.wat_tied.specs.Told.{commits_told, IsTold}
 use Rattle.wat_tied.specs.Tied.{AreStanding, standing_in, IsIdle, GoesWith, IsInside, IsAbsent, MeetsWith, IsTied}
 
 -- of a connection with nothing done
@@ -26,6 +30,21 @@ goes base (Some script) = refl
 meets : (s : law.State sql) (c : ℕ) (script : Option (List ℕ)) → MeetsWith s c (connection_with script).work
 meets s c None = tt
 meets s c (Some script) = tt
+
+told_first : (script : Option (List ℕ)) → IsTold (connection_with script) []
+told_first None = record { goes = λ s m e. absurd (none_left s m e); open_parts = λ e. refl; opens = λ e w. refl }
+  where
+    none_left : (s : Span) (m : List Span) → [] ≡ s ∷ m → ⊥
+    none_left s m e = cc
+told_first (Some script) = record { goes = λ s m e. refl; open_parts = λ e. refl; opens = λ e w. refl }
+
+none_told : (scripts : List (List ℕ)) (k n : ℕ) → flat_map (λ c. commits_told (connection_with (script_of scripts c))) (range_with_len k n) ≡ []
+none_told scripts k zero = refl
+none_told scripts k (suc n) = ap (λ z. z ++ flat_map (λ c. commits_told (connection_with (script_of scripts c))) (range_with_len (k + 1) n)) (one (script_of scripts k)) ∙ none_told scripts (k + 1) n
+  where
+    one : (o : Option (List ℕ)) → commits_told (connection_with o) ≡ []
+    one None = refl
+    one (Some script) = refl
 
 none_past : (scripts : List (List ℕ)) (c : ℕ) → (c < length scripts → ⊥) → slice_get scripts c ≡ None
 none_past [] c out = refl
@@ -52,6 +71,8 @@ begins base scripts tables = record {
     idle = λ c. is_idle (script_of scripts c);
     parts = λ c p has. absurd has;
     serial = refl;
+    told = λ c. told_first (script_of scripts c);
+    history = record { all = subst (λ z. IsPermutation z []) (sym (none_told scripts 1 (length scripts))) (IsPermutation-refl []); numbers = refl; moments = refl };
     outside = λ c out. nothing base scripts c out;
     works = λ going c. goes base (script_of scripts c);
     meets = λ going c. meets s c (script_of scripts c);

@@ -1,5 +1,5 @@
 -- A change that is granted leaves the core tied.
-use Rattle.std.proofs.Common.{◌≡◌, ℕ, List, [], ◌∷◌, ◌++◌, map, reverse, Option, Some, None, nat_eq, refl, sym, ap, ◌∙◌, subst, ⊎_elim}
+use Rattle.std.proofs.Common.{◌≡◌, ℕ, List, [], ◌∷◌, ◌++◌, map, reverse, Option, Some, None, nat_eq, refl, sym, ap, ◌∙◌, subst, inl, ⊎_elim}
 use Rattle.std.specs.List.{fold}
 use Rattle.std.proofs.lemmas.List.{reverse-append, append_assoc}
 use Rattle.wat_list.specs.Has.{Has}
@@ -30,7 +30,7 @@ use Rattle.wat_steps.specs.Answering.{IsSame}
 use Rattle.wat_steps.specs.Asking.{with_locks, going_on}
 use Rattle.wat_steps.specs.Changing.{made}
 use Rattle.wat_steps.specs.Making.{AreSpots, changed}
-use Rattle.wat_tied.specs.Tied.{Relates, IsFormed, standing_as, AreStanding, stood_in, standing_in, IsGoing, MeetsWith, Ghost, Ties, IsTied}
+use Rattle.wat_tied.specs.Tied.{Relates, IsFormed, standing_as, AreStanding, parts_in, stood_in, standing_in, IsGoing, MeetsWith, Ghost, Ties, IsTied}
 use Rattle.wat_tied.proofs.Aims.{meets_changed}
 use Rattle.wat_tied.proofs.Begun.{here}
 use Rattle.wat_tied.proofs.Granted.{there, not_idle, working}
@@ -39,6 +39,7 @@ use Rattle.wat_tied.proofs.Moved.{row_given, moved}
 use Rattle.wat_tied.proofs.Reading.{adds}
 use Rattle.wat_tied.proofs.Renewed.{rows_stay, renewed, renewal, has_work}
 use Rattle.wat_tied.proofs.Same.{same_ties}
+use Rattle.wat_tied.proofs.Telling.{told_working}
 use Rattle.wat_tied.proofs.Spots.{change_of, spots_right}
 
 pub fold_append : {A B : Type 0} (f : B → A → B) (b : B) (xs ys : List A) → fold f b (xs ++ ys) ≡ fold f (fold f b xs) ys
@@ -152,6 +153,8 @@ module _ (e : CoreState) (g : Ghost) (ties : Ties e g) (c : ℕ) (run : Run) (un
         (subst (MeetsWith s c) under (ties.meets on c));
     parts = ties.parts c;
     serial = ties.serial;
+    told = told_working (e.connections c) later (parts_in (g.entries c)) (ties.told c);
+    commits = inl (refl, refl, refl);
   })
 
 pub change_tied : (e after : CoreState) (c : ℕ) (run : Run) → IsTied e → e.stop ≡ None → (e.connections c).work ≡ Some run

@@ -1,8 +1,10 @@
 -- COMMIT leaves the core tied: the serial history grows by one transaction.
-use Rattle.std.proofs.Common.{◌≡◌, ℕ, List, [], ◌∷◌, ◌++◌, reverse, Option, Some, None, nat_eq, refl, sym, ap, ◌∙◌, subst}
+use Rattle.std.proofs.Common.{◌≡◌, ℕ, List, [], ◌∷◌, ◌++◌, reverse, Option, Some, None, Ok, nat_eq, refl, sym, ap, ◌∙◌, subst, inr}
 use Rattle.std.specs.List.{fold}
 use Rattle.std.proofs.lemmas.List.{append-nil, reverse-reverse}
+use Rattle.wat_ast.specs.declared.statement.Statement.{Statement}
 use Rattle.wat_parse.specs.declared.script.Span.{Span}
+use Rattle.wat_parse.specs.Parsing.{parsed_at}
 use Rattle.wat_schema.specs.Tables.{Tables}
 use Rattle.wat_isolation.specs.Rows.{Scheme}
 use Rattle.wat_isolation.specs.Logs.{Committed.Ran, Alone, view}
@@ -32,9 +34,11 @@ use Rattle.wat_tied.proofs.Granted.{there}
 use Rattle.wat_tied.proofs.Renewed.{renewed, renewal, has_work}
 use Rattle.wat_tied.proofs.Same.{same_ties}
 use Rattle.wat_tied.proofs.Serially.{follows}
+use Rattle.wat_tied.proofs.Telling.{commits_next, told_over}
+use Rattle.wat_tied.specs.Told.{commits_told}
 
 module _ (e : CoreState) (g : Ghost) (ties : Ties e g) (c : ℕ) (going : e.stop ≡ None) (resting : (e.connections c).work ≡ None) (o : OpenTransaction) (opened : (e.connections c).transaction ≡ Some o)
-    (span : Span) (more : List Span) (first : (e.connections c).left ≡ span ∷ more) (moment : ℕ) where
+    (span : Span) (more : List Span) (first : (e.connections c).left ≡ span ∷ more) (written : Statement) (read : parsed_at (e.connections c).script span ≡ Ok written) (moment : ℕ) where
   abbrev s : law.State sql
   s = g.state
 
@@ -106,13 +110,23 @@ module _ (e : CoreState) (g : Ghost) (ties : Ties e g) (c : ℕ) (going : e.stop
     works = λ on. refl;
     meets = λ on. tt;
     parts = λ p m. absurd m;
+    told = told_over (e.connections c) k span answer [] refl refl more first (parts_in (g.entries c)) (ties.told c) refl written read refl refl refl;
+    commits = inr (
+      commit,
+      moment,
+      commits_next (e.connections c) k span answer [] refl refl ∙ ap (λ z. commits_told (e.connections c) ++ record { number = next_number e; parts = z } ∷ []) ((ties.told c).open_parts ((ties.told c).goes span more first)),
+      refl,
+      refl,
+      refl,
+      λ out. has_work e g ties c span more first (λ i. out (i.from_one, i.within)),
+    );
     serial = grows 3 e.base e.committed new_base g.history commit ties.serial (subst (Follows 3 e.committed (parts_in (g.entries c))) after_is went.1);
   })
 
 pub commit_tied : (e after : CoreState) (c : ℕ) → IsTied e → e.stop ≡ None → (e.connections c).work ≡ None → (o : OpenTransaction) → (e.connections c).transaction ≡ Some o
-    → (span : Span) (more : List Span) → (e.connections c).left ≡ span ∷ more → (moment : ℕ) → IsSame (committed c moment (Some o) e) after → IsTied after
-commit_tied e after c tied going resting o opened span more first moment same =
+    → (span : Span) (more : List Span) → (e.connections c).left ≡ span ∷ more → (written : Statement) → parsed_at (e.connections c).script span ≡ Ok written → (moment : ℕ) → IsSame (committed c moment (Some o) e) after → IsTied after
+commit_tied e after c tied going resting o opened span more first written read moment same =
     let g : Ghost = tied.ghost in
     let t : law.State sql = left_with g.state c (view sql g.state.base (g.state.conns c).log) (Ran g.state.scheme (g.state.conns c).log ∷ g.state.history) in
     let next : Ghost = renewal g c t [] [] (g.history ++ record { number = next_number e; parts = parts_in (g.entries c) } ∷ []) in
-    record { ghost = next; ties = same_ties (committed c moment (Some o) e) after next same (commit_ties e g tied.ties c going resting o opened span more first moment) }
+    record { ghost = next; ties = same_ties (committed c moment (Some o) e) after next same (commit_ties e g tied.ties c going resting o opened span more first written read moment) }

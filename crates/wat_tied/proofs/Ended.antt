@@ -1,5 +1,5 @@
 -- Each end of a transaction but COMMIT leaves the core tied: all that stands is undone, and the transaction is gone.
-use Rattle.std.proofs.Common.{◌≡◌, ℕ, is_some, true, false, List, [], ◌∷◌, ◌++◌, map, reverse, Option, Some, None, nat_eq, refl, sym, ap, ◌∙◌, subst}
+use Rattle.std.proofs.Common.{◌≡◌, ℕ, is_some, true, false, List, [], ◌∷◌, ◌++◌, map, reverse, Option, Some, None, Ok, nat_eq, refl, sym, ap, ◌∙◌, subst, inl}
 use Rattle.std.specs.List.{fold}
 use Rattle.std.proofs.lemmas.Bool.{both_ways}
 use Rattle.std.proofs.lemmas.List.{append-nil, reverse-append, map-append}
@@ -9,10 +9,13 @@ use Rattle.wat_isolation.specs.Machine as law
 use Rattle.wat_isolation.specs.Sql.{sql}
 use Rattle.wat_isolation.proofs.Basics.{nat_same, put-same, put-other}
 use Rattle.wat_isolation.proofs.Whole.{event_keeps}
+use Rattle.wat_ast.specs.declared.statement.Statement.{Statement}
 use Rattle.wat_parse.specs.declared.script.Span.{Span}
+use Rattle.wat_parse.specs.Parsing.{parsed_at}
 use Rattle.wat_cycle.specs.declared.request.Edge.{Edge}
 use Rattle.wat_conn.specs.declared.answer.Answer.{Answer}
-use Rattle.wat_conn.specs.declared.answer.Answer.TheVariants.{Deadlock}
+use Rattle.wat_conn.specs.declared.answer.Answer.TheVariants.{Given, Deadlock}
+use Rattle.wat_conn.specs.declared.answer.Reply.TheVariants.{RolledBack}
 use Rattle.wat_history.specs.Serial.{Serial}
 use Rattle.wat_scans.specs.Running.{Run}
 use Rattle.wat_steps.specs.State.{OpenTransaction, ConnectionState, CoreState, schema_of, with_connection}
@@ -20,7 +23,7 @@ use Rattle.wat_steps.specs.Changing.{made, undone}
 use Rattle.wat_steps.specs.Answering.{IsSame, answered, ended, rolled_back, rolled_back_from}
 use Rattle.wat_steps.specs.Asking.{broken_off}
 use Rattle.wat_steps.specs.Step.{closed}
-use Rattle.wat_tied.specs.Tied.{Relates, AreStanding, stood_in, made_in, standing_in, IsGoing, GoesWith, IsIdle, IsInside, MeetsWith, Ghost, Ties, IsTied}
+use Rattle.wat_tied.specs.Tied.{Relates, AreStanding, parts_in, stood_in, made_in, standing_in, IsGoing, GoesWith, IsIdle, IsInside, MeetsWith, Ghost, Ties, IsTied}
 use Rattle.wat_tied.proofs.Answered.{done, done_here, done_there, answered_relates}
 use Rattle.wat_tied.proofs.Begun.{here}
 use Rattle.wat_tied.proofs.Changed.{fold_append}
@@ -28,6 +31,8 @@ use Rattle.wat_tied.proofs.Ending.{left_with, freed, freed_relates}
 use Rattle.wat_tied.proofs.Granted.{there, working}
 use Rattle.wat_tied.proofs.Refused.{same_tied}
 use Rattle.wat_tied.proofs.Renewed.{rows_stay, renewed, renewal, has_work}
+use Rattle.wat_tied.specs.Told.{commits_told, IsTold}
+use Rattle.wat_tied.proofs.Telling.{no_commit, told_over, told_ended}
 use Rattle.wat_tied.proofs.Undone.{IsUndone, undo_all}
 
 -- the core after the end: all but the connection is as it was after the undoing, less its locks and vacant keys
@@ -43,6 +48,9 @@ pub record IsEnd (e u after : CoreState) (c : ℕ) (k : ConnectionState) : Type 
   pub present : (IsInside e c → ⊥) → ⊥
   pub base : after.base ≡ u.base
   pub committed : after.committed ≡ u.committed
+  pub told : IsTold k []
+  pub commits : commits_told k ≡ commits_told (e.connections c)
+  pub moments : after.moments ≡ u.moments
   pub relates : (t : law.State sql) → Relates (freed c u.committed u) t → Relates after t
 
 pub end_tied : (e : CoreState) (g : Ghost) → Ties e g → (c : ℕ) (u : CoreState) (k : ConnectionState) (after : CoreState) → IsEnd e u after c k → IsTied after
@@ -81,6 +89,8 @@ end_tied e g ties c u k after end = finish r.0 (subst (λ (z : CoreState). IsUnd
             works = λ going. subst (λ (z : Option Run). GoesWith (schema_of e) k z []) (sym end.no_work) refl;
             meets = λ going. subst (MeetsWith gone c) (sym end.no_work) tt;
             parts = λ p m. absurd m;
+            told = end.told;
+            commits = inl (end.commits, refl, end.moments ∙ sym (ap (λ (z : CoreState). z.moments) b.others_same));
             serial = subst (λ z. Serial 3 z g.history after.committed) (sym (end.base ∙ sym (ap (λ (z : CoreState). z.base) b.others_same)))
                 (subst (Serial 3 e.base g.history) (sym (end.committed ∙ sym (ap (λ (z : CoreState). z.committed) b.others_same))) ties.serial);
           });
@@ -122,6 +132,9 @@ deadlock_tied e after c run tied going under cycle same =
       present = has_work e g tied.ties c was.span was.more was.first;
       base = refl;
       committed = refl;
+      told = told_over (e.connections c) k was.span (Deadlock cycle) [] refl refl was.more was.first (parts_in (g.entries c)) (tied.ties.told c) refl was.written was.read refl refl refl;
+      commits = no_commit (e.connections c) k was.span (Deadlock cycle) [] refl refl (λ d p. refl);
+      moments = refl;
       relates = λ t r. answered_relates c (ended c u) t (Deadlock cycle) [] (ends_relate c u (record (u.connections c) { transaction = None }) t r);
     }))) same
   where
@@ -176,8 +189,11 @@ module _ (e : CoreState) (g : Ghost) (ties : Ties e g) (c : ℕ) (resting : (e.c
   at_c : (ended c u).connections c ≡ with_none
   at_c = here u c (record (u.connections c) { transaction = None }) ∙ ap (λ (f : ℕ → ConnectionState). record (f c) { transaction = None }) connections
 
-  pub rollback_tied : (span : Span) (more : List Span) → (e.connections c).left ≡ span ∷ more → (answer : Answer) → IsTied (answered c (rolled_back c e) answer [])
-  rollback_tied span more first answer = subst (λ (z : CoreState). IsTied (answered c z answer [])) (sym rolled_is) (end_tied e g ties c u (done span more with_none answer []) (answered c (ended c u) answer []) (record {
+  abbrev answer : Answer
+  answer = Given RolledBack
+
+  pub rollback_tied : (span : Span) (more : List Span) → (e.connections c).left ≡ span ∷ more → (written : Statement) → parsed_at (e.connections c).script span ≡ Ok written → IsTied (answered c (rolled_back c e) (Given RolledBack) [])
+  rollback_tied span more first written read = subst (λ (z : CoreState). IsTied (answered c z answer [])) (sym rolled_is) (end_tied e g ties c u (done span more with_none answer []) (answered c (ended c u) answer []) (record {
     undone = u_is;
     no_transaction = refl;
     no_work = refl;
@@ -189,11 +205,14 @@ module _ (e : CoreState) (g : Ghost) (ties : Ties e g) (c : ℕ) (resting : (e.c
     present = has_open;
     base = refl;
     committed = refl;
+    told = told_over (e.connections c) (done span more with_none answer []) span answer [] refl refl more first (parts_in (g.entries c)) (ties.told c) refl written read refl refl refl;
+    commits = no_commit (e.connections c) (done span more with_none answer []) span answer [] refl refl (λ d p. refl);
+    moments = refl;
     relates = λ t r. answered_relates c (ended c u) t answer [] (ends_relate c u (record (u.connections c) { transaction = None }) t r);
   }))
 
-  pub closing_tied : IsTied (closed c e)
-  closing_tied = subst (λ (z : CoreState). IsTied (with_connection c (record (z.connections c) { has_ended = true }) z)) (sym rolled_is) (end_tied e g ties c u (record ((ended c u).connections c) { has_ended = true }) (with_connection c (record ((ended c u).connections c) { has_ended = true }) (ended c u)) (record {
+  pub closing_tied : (e.connections c).left ≡ [] → IsTied (closed c e)
+  closing_tied none_left = subst (λ (z : CoreState). IsTied (with_connection c (record (z.connections c) { has_ended = true }) z)) (sym rolled_is) (end_tied e g ties c u (record ((ended c u).connections c) { has_ended = true }) (with_connection c (record ((ended c u).connections c) { has_ended = true }) (ended c u)) (record {
     undone = u_is;
     no_transaction = ap (λ (z : ConnectionState). z.transaction) at_c;
     no_work = ap (λ (z : ConnectionState). z.work) at_c ∙ resting;
@@ -205,5 +224,8 @@ module _ (e : CoreState) (g : Ghost) (ties : Ties e g) (c : ℕ) (resting : (e.c
     present = has_open;
     base = refl;
     committed = refl;
+    told = told_ended ((ended c u).connections c) [] (ap (λ (z : ConnectionState). z.left) at_c ∙ none_left);
+    commits = ap (λ (z : ConnectionState). commits_told (record z { has_ended = true })) at_c;
+    moments = refl;
     relates = λ t r. record { scheme = r.scheme; now = r.now; base = r.base; locks = r.locks; vacant = r.vacant };
   }))

@@ -1,5 +1,5 @@
 -- An entry that changes no row, of a connection with a transaction open, leaves the core tied.
-use Rattle.std.proofs.Common.{◌≡◌, ℕ, false, is_some, List, [], ◌∷◌, ◌++◌, reverse, Option, Some, None, Result, Ok, Err, refl, sym, ap, ◌∙◌, subst, ⊎_elim}
+use Rattle.std.proofs.Common.{◌≡◌, ℕ, false, is_some, List, [], ◌∷◌, ◌++◌, reverse, Option, Some, None, Result, Ok, Err, refl, sym, ap, ◌∙◌, subst, inl, ⊎_elim}
 use Rattle.std.proofs.lemmas.Bool.{both_ways}
 use Rattle.wat_list.specs.Has.{Has}
 use Rattle.wat_value.specs.Changes.{RowName}
@@ -22,7 +22,8 @@ use Rattle.wat_scans.specs.Look.{IsOf}
 use Rattle.wat_scans.specs.Running.{Run}
 use Rattle.wat_steps.specs.State.{OpenTransaction, ConnectionState, CoreState, schema_of}
 use Rattle.wat_steps.specs.Answering.{answered}
-use Rattle.wat_tied.specs.Tied.{Relates, AreStanding, RecordedPart, IsDetermined, items_in, stood_in, standing_in, GoesWith, IsInside, Ghost, Ties, IsTied}
+use Rattle.wat_tied.specs.Tied.{Relates, AreStanding, RecordedPart, IsDetermined, items_in, parts_in, stood_in, standing_in, GoesWith, IsInside, Ghost, Ties, IsTied}
+use Rattle.wat_tied.specs.Told.{commits_told, IsTold}
 use Rattle.wat_tied.proofs.Answered.{done, done_here, done_there, answered_relates, part_of}
 use Rattle.wat_tied.proofs.Granted.{not_idle}
 use Rattle.wat_tied.proofs.Renewed.{renewed, renewal}
@@ -47,7 +48,8 @@ no_work e g ties c going resting = subst (λ (z : Option Run). GoesWith (schema_
 module _ (e : CoreState) (g : Ghost) (ties : Ties e g) (c : ℕ) (going : e.stop ≡ None) (resting : (e.connections c).work ≡ None)
     (mid : CoreState) (before : ConnectionState) (but : IsBut e mid c before) (t : OpenTransaction) (opened : before.transaction ≡ Some t) (stands : t.standing ≡ stood_in (e.connections c).transaction)
     (span : Span) (more : List Span) (first : before.left ≡ span ∷ more) (present : (IsInside e c → ⊥) → ⊥) (answer : Answer)
-    (means : (f : RowName → Option Row) (tables : Tables) → IsOf (schema_of e) f tables → Means 3 tables (part_of before span answer [])) where
+    (means : (f : RowName → Option Row) (tables : Tables) → IsOf (schema_of e) f tables → Means 3 tables (part_of before span answer []))
+    (told : IsTold (done span more before answer []) (parts_in (g.entries c) ++ part_of before span answer [] ∷ [])) (commits : commits_told (done span more before answer []) ≡ commits_told (e.connections c)) where
   abbrev k : ConnectionState
   k = done span more before answer []
 
@@ -85,6 +87,8 @@ module _ (e : CoreState) (g : Ghost) (ties : Ties e g) (c : ℕ) (going : e.stop
       meets = λ on. tt;
       parts = λ p m. ⊎_elim (λ (h : recorded ≡ p). subst (IsDetermined (schema_of e)) h determined) (λ (h : Has p (g.entries c)). ties.parts c p h) m;
       serial = subst (λ (z : CoreState). Serial 3 z.base g.history z.committed) but.rest ties.serial;
+      told = told;
+      commits = inl (commits, refl, sym (ap (λ (z : CoreState). z.moments) but.rest));
     });
   }
 

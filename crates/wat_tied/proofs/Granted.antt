@@ -45,7 +45,7 @@ use Rattle.wat_steps.specs.State.{OpenTransaction, ConnectionState, CoreState, s
 use Rattle.wat_steps.specs.Answering.{IsSame}
 use Rattle.wat_steps.specs.Asking.{with_locks, going_on}
 use Rattle.wat_steps.specs.Visiting.{IsSeen, writes_rows, wants_of, without_visit, seen_by, visited}
-use Rattle.wat_tied.specs.Tied.{AreStanding, RecordedPart, AreReads, IsOfStep, AreOfSteps, ArePlaced, standing_in, IsGoing, GoesWith, AreAims, HasMet, HasMetSo, MeetsWith, Ghost, IsIdle, Ties, IsTied}
+use Rattle.wat_tied.specs.Tied.{AreStanding, RecordedPart, AreReads, IsOfStep, AreOfSteps, ArePlaced, parts_in, standing_in, IsGoing, GoesWith, AreAims, HasMet, HasMetSo, MeetsWith, Ghost, IsIdle, Ties, IsTied}
 use Rattle.wat_tied.proofs.Aims.{AimsSo, listing_is, visited_aims, meets_unchanged}
 use Rattle.wat_tied.proofs.Begun.{here}
 use Rattle.wat_tied.proofs.Meeting.{IsFound, found, visited_meeting}
@@ -55,6 +55,7 @@ use Rattle.wat_tied.proofs.Places as places
 use Rattle.wat_tied.proofs.Reading.{IsReadIn, long_stay, peeked}
 use Rattle.wat_tied.proofs.Renewed.{renewed, renewal, has_work}
 use Rattle.wat_tied.proofs.Same.{same_ties}
+use Rattle.wat_tied.proofs.Telling.{told_working}
 use Rattle.wat_tied.proofs.Visiting.{same_wants, primary_is, visit_read}
 
 -- another connection is as it was
@@ -203,6 +204,8 @@ module _ (e : CoreState) (g : Ghost) (ties : Ties e g) (c : ℕ) (run : Run) (un
       meets = λ on. meets_then on t item v;
       parts = ties.parts c;
       serial = ties.serial;
+      told = told_working (e.connections c) later (parts_in (g.entries c)) (ties.told c);
+      commits = inl (refl, refl, refl);
     })
 
   pub granted_tied : AreFree e.held c wants → IsTied after

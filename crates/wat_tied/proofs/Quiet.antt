@@ -1,6 +1,7 @@
--- The core stays tied where a statement is answered at once while no transaction is open.
-use Rattle.std.proofs.Common.{◌≡◌, ℕ, ◌==◌, Bool, true, false, not, ◌&&◌, is_some, List, [], ◌∷◌, Option, Some, None, refl, sym, ◌∙◌, subst}
+-- The core stays tied where a statement is answered at once, and its entry is no part of a transaction.
+use Rattle.std.proofs.Common.{◌≡◌, ap, ℕ, ◌==◌, Bool, true, false, not, ◌&&◌, is_some, List, [], ◌∷◌, ◌++◌, Option, None, refl, sym, ◌∙◌, subst}
 use Rattle.wat_list.proofs.Members.{filter_has}
+use Rattle.wat_value.specs.declared.change.Act.{Act}
 use Rattle.wat_parse.specs.declared.script.Span.{Span}
 use Rattle.wat_locks.specs.declared.held.Held.{Held}
 use Rattle.wat_locks.specs.Held.{entry}
@@ -11,9 +12,10 @@ use Rattle.wat_isolation.specs.Sql.{sql}
 use Rattle.wat_conn.specs.declared.answer.Answer.{Answer}
 use Rattle.wat_scans.specs.Running.{Run}
 use Rattle.wat_steps.specs.State.{OpenTransaction, ConnectionState, CoreState, schema_of, with_connection}
-use Rattle.wat_steps.specs.Answering.{IsSame, with_answer, without_short, answered}
-use Rattle.wat_tied.specs.Tied.{AreStanding, standing_in, IsIdle, IsAbsent, Ghost, Ties, IsTied}
-use Rattle.wat_tied.proofs.Same.{same_ties}
+use Rattle.wat_steps.specs.Answering.{entry_at, with_answer, without_short, answered}
+use Rattle.wat_tied.specs.Told.{commits_told, IsTold}
+use Rattle.wat_tied.specs.Tied.{AreStanding, parts_in, standing_in, GoesWith, IsIdle, Ghost, Ties, IsTied}
+use Rattle.wat_tied.proofs.Renewed.{has_work}
 use Rattle.wat_tied.proofs.Updated.{with_tied}
 
 neither : (b : Bool) → not (b && false) ≡ true
@@ -34,43 +36,42 @@ with_fewer e c g ties = record {
   idle = ties.idle;
   parts = ties.parts;
   serial = ties.serial;
+  told = ties.told;
+  history = record { all = ties.history.all; numbers = ties.history.numbers; moments = ties.history.moments };
   outside = λ c out. ties.outside c (λ i. out (record { from_one = i.from_one; within = i.within }));
   works = ties.works;
   meets = ties.meets;
 }
 
+-- the connection after an answer to the first statement that was left
+abbrev pub done : Span → List Span → ConnectionState → Answer → List Act → ConnectionState
+done span more k answer acts = record k { left = more; transcript = k.transcript ++ entry_at span k.level answer acts ∷ []; work = None; request = None }
+
 same_transaction : (left : List Span) (k : ConnectionState) (answer : Answer) → (with_answer left k answer []).transaction ≡ k.transaction
 same_transaction [] k answer = refl
 same_transaction (span ∷ more) k answer = refl
 
-absent_left : (left : List Span) (k : ConnectionState) (answer : Answer) → left ≡ [] → k.left ≡ [] → (with_answer left k answer []).left ≡ []
-absent_left [] k answer none is = is
-absent_left (span ∷ more) k answer none is = absurd (cc)
-
-stays_absent : (k : ConnectionState) (answer : Answer) → IsAbsent k → IsAbsent (record (with_answer k.left k answer []) { work = None; request = None })
-stays_absent k answer is = record { no_transaction = same_transaction k.left k answer ∙ is.no_transaction; none_left = absent_left k.left k answer is.none_left is.none_left }
-
-nothing_recorded : (e : CoreState) (g : Ghost) (c : ℕ) (t : Option OpenTransaction) → t ≡ None → IsIdle (g.state.conns c) (g.entries c) (g.work c) t → g.work c ≡ []
-nothing_recorded e g c None none idle = idle.2
-nothing_recorded e g c (Some t) none idle = absurd (cc)
-
-pub quiet_tied : (e after : CoreState) (c : ℕ) (answer : Answer) → IsTied e → (e.connections c).work ≡ None → (e.connections c).transaction ≡ None → IsSame (answered c e answer []) after → IsTied after
-quiet_tied e after c answer tied free closed same =
+-- What is recorded stays, where the entry joins no transaction and commits nothing.
+pub quiet_tied : (e : CoreState) (c : ℕ) (answer : Answer) → (tied : IsTied e) → e.stop ≡ None → (e.connections c).work ≡ None → (span : Span) (more : List Span) → (e.connections c).left ≡ span ∷ more
+    → IsTold (done span more (e.connections c) answer []) (parts_in (tied.ghost.entries c)) → commits_told (done span more (e.connections c) answer []) ≡ commits_told (e.connections c) → IsTied (answered c e answer [])
+quiet_tied e c answer tied going free span more first told commits =
     let g : Ghost = tied.ghost in
     let old : ConnectionState = e.connections c in
     let k : ConnectionState = record (with_answer old.left old answer []) { work = None; request = None } in
+    let is : k ≡ done span more old answer [] = ap (λ z. record (with_answer z old answer []) { work = None; request = None }) first in
     record {
       ghost = g;
       ties =
-          same_ties (answered c e answer []) after g same
-          (with_fewer (with_connection c k e) c g
+          with_fewer (with_connection c k e) c g
           (with_tied e g c k tied.ties (record {
             standing =
                 subst (λ (t : Option OpenTransaction). AreStanding (schema_of e) (standing_in t None) (g.state.conns c).standing) (sym (same_transaction old.left old answer))
                 (subst (λ (work : Option Run). AreStanding (schema_of e) (standing_in old.transaction work) (g.state.conns c).standing) free (tied.ties.standing c));
             idle = subst (λ (t : Option OpenTransaction). IsIdle (g.state.conns c) (g.entries c) (g.work c) t) (sym (same_transaction old.left old answer)) (tied.ties.idle c);
-            outside = λ out. stays_absent old answer (tied.ties.outside c out);
-            works = λ going. nothing_recorded e g c old.transaction closed (tied.ties.idle c);
-            meets = λ going. tt;
-          })));
+            outside = λ out. absurd (has_work e g tied.ties c span more first out);
+            works = λ on. subst (λ (z : Option Run). GoesWith (schema_of e) old z (g.work c)) free (tied.ties.works going c);
+            meets = λ on. tt;
+            told = subst (λ (z : ConnectionState). IsTold z (parts_in (g.entries c))) (sym is) told;
+            commits = ap commits_told is ∙ commits;
+          }));
     }

@@ -1,5 +1,5 @@
 -- A statement that is refused, or answered Locked, leaves the core tied: what it changed is undone.
-use Rattle.std.proofs.Common.{◌≡◌, ℕ, nat_le, true, List, [], ◌∷◌, ◌++◌, reverse, Option, Some, refl, sym, ap, ◌∙◌, subst, ⊎_elim}
+use Rattle.std.proofs.Common.{◌≡◌, ℕ, nat_le, true, List, [], ◌∷◌, ◌++◌, reverse, Option, Some, refl, sym, ap, ◌∙◌, subst, inl, ⊎_elim}
 use Rattle.std.proofs.lemmas.List.{reverse-append, append-nil, append_assoc}
 use Rattle.wat_list.specs.Has.{Has}
 use Rattle.wat_value.specs.declared.change.Change.{Change}
@@ -22,18 +22,19 @@ use Rattle.wat_scans.specs.Running.{Run, items_of}
 use Rattle.wat_steps.specs.State.{ConnectionState, CoreState, schema_of}
 use Rattle.wat_steps.specs.Changing.{undone}
 use Rattle.wat_steps.specs.Asking.{refused}
-use Rattle.wat_tied.specs.Tied.{Relates, AreStanding, RecordedPart, IsDetermined, items_in, stood_in, standing_in, IsGoing, Ghost, Ties, IsTied}
-use Rattle.wat_tied.proofs.Answered.{done, done_here, done_there, answered_relates, part_of, meant}
+use Rattle.wat_tied.specs.Tied.{Relates, AreStanding, RecordedPart, IsDetermined, items_in, parts_in, stood_in, standing_in, IsGoing, Ghost, Ties, IsTied}
+use Rattle.wat_tied.proofs.Answered.{done, done_here, done_there, answered_relates, part_of, opens_written, meant}
 use Rattle.wat_tied.proofs.Granted.{not_idle}
 use Rattle.wat_tied.proofs.Recorded.{view_of_reads, did_items, did_is, undone_view}
 use Rattle.wat_tied.proofs.Renewed.{rows_stay, renewed, renewal, has_work}
+use Rattle.wat_tied.proofs.Telling.{IsPlainAnswer, no_commit, told_joins}
 use Rattle.wat_tied.proofs.Undone.{undo_items, IsUndone, undo_all}
 
 -- The statement is refused in a step in which its connection got other locks, and in which what is in `extra` was read.
 module _ (e : CoreState) (g : Ghost) (ties : Ties e g) (c : ℕ) (run : Run) (under : (e.connections c).work ≡ Some run) (was : IsGoing (schema_of e) (e.connections c) run (g.work c))
     (held : List Held) (s : law.State sql) (extra : List (Item sql)) (relates : Relates (record e { held = held }) s) (kept : Kept sql s) (log : (s.conns c).log ≡ extra ++ (g.state.conns c).log)
     (standing : (s.conns c).standing ≡ (g.state.conns c).standing) (others : (d : ℕ) → (d ≡ c → ⊥) → s.conns d ≡ g.state.conns d) (base : s.base ≡ g.state.base) (quiet : (f : RowName → Option Row) → view sql f extra ≡ f)
-    (answer : Answer)
+    (answer : Answer) (plain : IsPlainAnswer answer)
     (told : (f : RowName → Option Row) (t : Tables) (r : Meant) → nat_le 3 run.level ≡ true → says answer ≡ Some r → IsOf (schema_of e) f t
     → Alone sql (scheme_of (schema_of e)) f (extra ++ items_of (schema_of e) run.made was.visits) → meaning_checked t was.statement ≡ record { answer = r; acts = [] }) where
   abbrev cat : Catalog
@@ -113,6 +114,9 @@ module _ (e : CoreState) (g : Ghost) (ties : Ties e g) (c : ℕ) (run : Run) (un
           meets = λ going. tt;
           parts = λ p m. ⊎_elim (λ (h : recorded ≡ p). subst (IsDetermined cat) h determined) (λ (h : Has p (g.entries c)). ties.parts c p h) m;
           serial = subst (λ (z : CoreState). Serial 3 z.base g.history z.committed) b.others_same ties.serial;
+          told = told_joins (e.connections c) k was.span answer [] refl refl was.more was.first (parts_in (g.entries c)) (ties.told c) refl was.written was.read plain.done plain.lasts
+              (inl (opens_written cat was.written was.statement was.checked was.stepped)) was.has_transaction;
+          commits = inl (no_commit (e.connections c) k was.span answer [] refl refl plain.commits_none, refl, sym (ap (λ (z : CoreState). z.moments) b.others_same));
         });
       }
 

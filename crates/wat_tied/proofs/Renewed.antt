@@ -15,8 +15,10 @@ use Rattle.wat_parse.specs.declared.script.Span.{Span}
 use Rattle.wat_history.specs.History.{Commit}
 use Rattle.wat_history.specs.Serial.{Serial}
 use Rattle.wat_steps.specs.State.{ConnectionState, CoreState, schema_of}
-use Rattle.wat_tied.specs.Tied.{Relates, AreStanding, RecordedPart, IsDetermined, Ghost, standing_in, items_in, IsIdle, GoesWith, IsInside, IsAbsent, MeetsWith, Ties}
+use Rattle.wat_tied.specs.Tied.{Relates, AreStanding, RecordedPart, IsDetermined, Ghost, standing_in, items_in, parts_in, IsIdle, GoesWith, IsInside, IsAbsent, MeetsWith, Ties}
+use Rattle.wat_tied.specs.Told.{commits_told, IsTold}
 use Rattle.wat_tied.proofs.Aims.{meets_stay}
+use Rattle.wat_tied.proofs.Telling.{IsContinued, history_goes_on}
 
 -- what is known of the connection that made the step, and of the whole
 pub record Renews (e after : CoreState) (g : Ghost) (c : ℕ) (t : law.State sql) (k : ConnectionState) (entries : List RecordedPart) (work : List (Item sql)) (history : List Commit) : Type 0 where
@@ -37,6 +39,8 @@ pub record Renews (e after : CoreState) (g : Ghost) (c : ℕ) (t : law.State sql
   pub meets : e.stop ≡ None → MeetsWith t c k.work
   pub parts : (p : RecordedPart) → Has p entries → IsDetermined (schema_of e) p
   pub serial : Serial 3 after.base history after.committed
+  pub told : IsTold k (parts_in entries)
+  pub commits : IsContinued e after c (commits_told (e.connections c)) (commits_told k) g.history history
 
 -- Where the commits are as before, the rows on which another connection holds Write are as it left them.
 pub rows_stay : (s t : law.State sql) → Kept sql s → Kept sql t → t.base ≡ s.base → (d : ℕ) → t.conns d ≡ s.conns d → (r : RowName) → Has (law.Lock.Write r) (s.conns d).locks → t.now r ≡ s.now r
@@ -73,6 +77,11 @@ renewed e after g ties c t k entries work history r = record {
       (λ p has. subst (λ z. IsDetermined z p) (sym r.same) (r.parts p (subst (Has p) here_entries has)))
       (λ d ne p has. subst (λ z. IsDetermined z p) (sym r.same) (ties.parts d p (subst (Has p) (there_entries d ne) has)));
   serial = r.serial;
+  told = by_connection (λ d. IsTold (after.connections d) (parts_in (new.entries d)))
+      (subst (λ (z : ConnectionState). IsTold z (parts_in (new.entries c))) (sym r.here) (subst (λ z. IsTold k (parts_in z)) (sym here_entries) r.told))
+      (λ d ne. subst (λ (z : ConnectionState). IsTold z (parts_in (new.entries d))) (sym (r.there d ne)) (subst (λ z. IsTold (e.connections d) (parts_in z)) (sym (there_entries d ne)) (ties.told d)));
+  history = history_goes_on e after c r.count r.there g.history history
+      (subst (λ (z : ConnectionState). IsContinued e after c (commits_told (e.connections c)) (commits_told z) g.history history) (sym r.here) r.commits) ties.history;
   outside = by_connection (λ d. (IsInside after d → ⊥) → IsAbsent (after.connections d))
       (λ out. subst IsAbsent (sym r.here) (r.outside (λ i. out (inside_then c i))))
       (λ d ne out. subst IsAbsent (sym (r.there d ne)) (ties.outside d (λ i. out (inside_then d i))));

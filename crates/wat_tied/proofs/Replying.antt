@@ -1,5 +1,5 @@
 -- A statement that is answered its reply leaves the core tied: its changes stand.
-use Rattle.std.proofs.Common.{◌≡◌, ℕ, true, false, is_some, unwrap_or, List, [], ◌∷◌, ◌++◌, map, reverse, Option, Some, None, refl, sym, ap, ◌∙◌, subst, ⊎_elim}
+use Rattle.std.proofs.Common.{◌≡◌, ℕ, true, false, is_some, unwrap_or, List, [], ◌∷◌, ◌++◌, map, reverse, Option, Some, None, refl, sym, ap, ◌∙◌, subst, inl, ⊎_elim}
 use Rattle.std.proofs.lemmas.Bool.{both_ways}
 use Rattle.std.proofs.lemmas.List.{append-nil}
 use Rattle.wat_list.specs.Has.{Has}
@@ -24,13 +24,15 @@ use Rattle.wat_steps.specs.State.{OpenTransaction, ConnectionState, CoreState, s
 use Rattle.wat_steps.specs.Answering.{IsSame, no_changes, with_transaction, transaction_of}
 use Rattle.wat_steps.specs.Statements.{answer_saying}
 use Rattle.wat_steps.specs.Step.{replied}
-use Rattle.wat_tied.specs.Tied.{AreStanding, RecordedPart, IsDetermined, stood_in, standing_in, IsGoing, Ghost, Ties, IsTied}
-use Rattle.wat_tied.proofs.Answered.{done, done_here, done_there, answered_relates, part_of, meant}
+use Rattle.wat_tied.specs.Tied.{AreStanding, RecordedPart, IsDetermined, parts_in, stood_in, standing_in, IsGoing, Ghost, Ties, IsTied}
+use Rattle.wat_tied.proofs.Answered.{done, done_here, done_there, answered_relates, part_of, opens_written, meant}
 use Rattle.wat_tied.proofs.Begun.{here}
 use Rattle.wat_tied.proofs.Granted.{there, working}
 use Rattle.wat_tied.proofs.Recorded.{view_of_reads, all_fit, reversed_has}
 use Rattle.wat_tied.proofs.Renewed.{renewed, renewal, has_work}
+use Rattle.wat_tied.proofs.Replies.{reply_plain}
 use Rattle.wat_tied.proofs.Same.{same_ties}
+use Rattle.wat_tied.proofs.Telling.{IsPlainAnswer, no_commit, told_joins}
 
 -- the answer says the reply
 says_it : (r other : Meant) → says (answer_saying 0 r) ≡ Some other → r ≡ other
@@ -70,6 +72,9 @@ module _ (e : CoreState) (g : Ghost) (ties : Ties e g) (c : ℕ) (run : Run) (un
 
   abbrev mid : CoreState
   mid = with_transaction c open_then e
+
+  plain : IsPlainAnswer answer
+  plain = reply_plain run r coming
 
   old : AreStanding cat (reverse (stood_in (e.connections c).transaction ++ run.made)) (g.state.conns c).standing
   old = subst (λ (z : Option Run). AreStanding cat (standing_in (e.connections c).transaction z) (g.state.conns c).standing) under (ties.standing c)
@@ -112,6 +117,9 @@ module _ (e : CoreState) (g : Ghost) (ties : Ties e g) (c : ℕ) (run : Run) (un
     meets = λ going. tt;
     parts = λ p m. ⊎_elim (λ (h : recorded ≡ p). subst (IsDetermined cat) h determined) (λ (h : Has p (g.entries c)). ties.parts c p h) m;
     serial = ties.serial;
+    told = told_joins (e.connections c) k was.span answer acts refl refl was.more was.first (parts_in (g.entries c)) (ties.told c) refl was.written was.read plain.done plain.lasts
+        (inl (opens_written cat was.written was.statement was.checked was.stepped)) refl;
+    commits = inl (no_commit (e.connections c) k was.span answer acts refl refl plain.commits_none, refl, refl);
   })
 
 pub reply_tied : (e after : CoreState) (c : ℕ) (run : Run) → IsTied e → e.stop ≡ None → (e.connections c).work ≡ Some run → (r : Meant) → next run ≡ ToReply r → IsSame (replied c e run r) after → IsTied after

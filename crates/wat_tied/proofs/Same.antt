@@ -40,6 +40,8 @@ reordered e g held vacant same_held same_vacant ties = record {
   idle = ties.idle;
   parts = ties.parts;
   serial = ties.serial;
+  told = ties.told;
+  history = record { all = ties.history.all; numbers = ties.history.numbers; moments = ties.history.moments };
   outside = λ c out. ties.outside c (λ i. out (record { from_one = i.from_one; within = i.within }));
   works = ties.works;
   meets = ties.meets;

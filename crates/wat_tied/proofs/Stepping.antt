@@ -17,7 +17,7 @@ use Rattle.wat_tied.proofs.Stopped.{stopped_tied, stops_tied}
 module _ (e after : CoreState) (c : ℕ) (a : Progressed) (tied : IsTied e) where
   goes_tied : e.stop ≡ None → (work : Option Run) → (e.connections c).work ≡ work → (left : List Span) → (e.connections c).left ≡ left → Goes c e work left a after → IsTied after
   goes_tied going (Some run) at left has h = works_tied e after c a run tied going at h
-  goes_tied going None at [] has h = script_ends e after c tied going at h.1
+  goes_tied going None at [] has h = script_ends e after c tied going at has h.1
   goes_tied going None at (span ∷ more) has h = reads e after c tied going at span more has a h
 
   pub step_tied : IsStep e c a after → IsTied after

@@ -5,8 +5,10 @@ use Rattle.wat_scans.specs.Running.{Run}
 use Rattle.wat_steps.specs.State.{ConnectionState, CoreState, schema_of, with_connection}
 use Rattle.wat_steps.specs.Answering.{IsSame}
 use Rattle.wat_steps.specs.Asking.{asking}
-use Rattle.wat_tied.specs.Tied.{AreStanding, standing_in, IsIdle, GoesWith, IsInside, IsAbsent, MeetsWith, Ghost, Ties, IsTied}
+use Rattle.wat_tied.specs.Tied.{AreStanding, parts_in, standing_in, IsIdle, GoesWith, IsInside, IsAbsent, MeetsWith, Ghost, Ties, IsTied}
+use Rattle.wat_tied.specs.Told.{commits_told, IsTold}
 use Rattle.wat_tied.proofs.Same.{same_ties}
+use Rattle.wat_tied.proofs.Telling.{same_history}
 
 -- what holds of this connection's new state and of the others' old ones holds of each
 pub each : (P : ℕ → ConnectionState → Type 0) (e : CoreState) (c : ℕ) (k : ConnectionState) → P c k → ((d : ℕ) → P d (e.connections d)) → (d : ℕ) → P d ((with_connection c k e).connections d)
@@ -23,6 +25,8 @@ pub record IsTiedConnection (e : CoreState) (g : Ghost) (c : ℕ) (k : Connectio
   pub works : e.stop ≡ None → GoesWith (schema_of e) k k.work (g.work c)
   pub meets : e.stop ≡ None → MeetsWith g.state c k.work
   pub outside : (IsInside e c → ⊥) → IsAbsent k
+  pub told : IsTold k (parts_in (g.entries c))
+  pub commits : commits_told k ≡ commits_told (e.connections c)
 
 pub with_tied : (e : CoreState) (g : Ghost) (c : ℕ) (k : ConnectionState) → Ties e g → IsTiedConnection e g c k → Ties (with_connection c k e) g
 with_tied e g c k ties new = record {
@@ -34,6 +38,8 @@ with_tied e g c k ties new = record {
   idle = each (λ d x. IsIdle (g.state.conns d) (g.entries d) (g.work d) x.transaction) e c k new.idle ties.idle;
   parts = ties.parts;
   serial = ties.serial;
+  told = each (λ d x. IsTold x (parts_in (g.entries d))) e c k new.told ties.told;
+  history = same_history e (with_connection c k e) g.history refl (each (λ d x. commits_told x ≡ commits_told (e.connections d)) e c k new.commits (λ d. refl)) refl ties.history;
   outside = each (λ d x. (IsInside (with_connection c k e) d → ⊥) → IsAbsent x) e c k (λ out. new.outside (λ i. out (record { from_one = i.from_one; within = i.within })))
       (λ d out. ties.outside d (λ i. out (record { from_one = i.from_one; within = i.within })));
   works = λ going. each (λ d x. GoesWith (schema_of e) x x.work (g.work d)) e c k (new.works going) (ties.works going);
@@ -76,5 +82,7 @@ waiting_tied e after c wants tied same = record {
         outside = λ out. let is = tied.ties.outside c out in record { no_transaction = is.no_transaction; none_left = is.none_left };
         works = λ going. goes_asking e (e.connections c) wants (e.connections c).work tied.ghost c (tied.ties.works going c);
         meets = λ going. tied.ties.meets going c;
+        told = let t = tied.ties.told c in record { goes = t.goes; open_parts = t.open_parts; opens = t.opens };
+        commits = refl;
       }));
 }

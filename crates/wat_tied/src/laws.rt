@@ -1,4 +1,4 @@
-ghost use Rattle.std.specs.Prelude.{◌≡◌, ℕ, [], ◌∷◌, List, None, Some, Ok};
+ghost use Rattle.std.specs.Prelude.{◌≡◌, ◌≢◌, ℕ, true, [], ◌∷◌, List, None, Some, Ok};
 ghost use Rattle.wat_value.specs.declared.change.Change.{Change};
 ghost use Rattle.wat_value.specs.Changes.{changed_table, row_before};
 ghost use Rattle.wat_value.specs.Indexes.{index_numbers};
@@ -13,9 +13,10 @@ ghost use Rattle.wat_parse.specs.Parsing.{parsed_at};
 ghost use Rattle.wat_rules.specs.Check.{check};
 ghost use Rattle.wat_scans.specs.Told.{IsStepped};
 ghost use Rattle.wat_schema.specs.Tables.{Row, Tables, IsTables, apply_all};
-ghost use Rattle.wat_conn.specs.declared.answer.Answer.{Answer};
 ghost use Rattle.wat_conn.specs.declared.answer.Reason.{Reason};
-ghost use Rattle.wat_conn.specs.declared.answer.Answer.TheVariants.{Refused, Locked};
+ghost use Rattle.wat_conn.specs.declared.answer.Answer.TheVariants.{Given, Refused, Locked};
+ghost use Rattle.wat_conn.specs.declared.answer.Reply.TheVariants.{RolledBack};
+ghost use Rattle.wat_rules.specs.Changes.{changes_schema};
 ghost use Rattle.wat_schema.specs.declared.refusal.Refusal.{Refusal};
 ghost use Rattle.wat_meaning.specs.declared.reply.Reply.{Reply as Meant};
 ghost use Rattle.wat_locks.specs.declared.held.Against.{Against};
@@ -30,8 +31,9 @@ ghost use Rattle.wat_scans.specs.declared.scan.Taken.{Taken};
 ghost use Rattle.wat_scans.specs.Recorded.{index_of_step};
 ghost use Rattle.wat_scans.specs.Running.{Run, Next.ToVisit, Next.ToChange, Next.ToReply, Next.ToRefuse, next, after_visit, row_changed};
 ghost use Rattle.wat_scans.specs.Scans.{Progress};
-ghost use Rattle.wat_history.specs.Connection.{Part};
-ghost use Rattle.wat_history.specs.History.{Commit};
+ghost use Rattle.wat_history.specs.Connection.{Part, opens};
+ghost use Rattle.wat_history.specs.History.{Commit, IsHistory};
+ghost use Rattle.wat_conn.specs.declared.session.Session.{Session};
 ghost use Rattle.wat_history.specs.Serial.{Follows, Serial};
 ghost use Rattle.wat_steps.specs.State.{OpenTransaction, CoreState, Progressed, schema_of};
 ghost use Rattle.wat_steps.specs.Fresh.{fresh};
@@ -41,6 +43,7 @@ ghost use Rattle.wat_steps.specs.Statements.{begun, back_to, committed, next_num
 ghost use Rattle.wat_steps.specs.Visiting.{IsSeen, wants_of, visited};
 ghost use Rattle.wat_steps.specs.Step.{IsStep, Runs, Stays, replied, closed};
 ghost use Rattle.wat_tied.specs.Ready.{IsReadyFor};
+ghost use Rattle.wat_tied.specs.Told.{IsHistoryTold, IsSerialTold, IsSessionOf};
 ghost use Rattle.wat_tied.specs.Tied.{IsFormed, IsTied, parts_in};
 
 /// Where the core is tied to the law of isolation, its committed transactions are serial, and each open one follows on
@@ -60,11 +63,6 @@ pub fn begun_law()
     ensures { (e after : CoreState) (c : ℕ) → IsTied e → (e.connections c).work ≡ None
         → (span : Span) (more : List Span) → (e.connections c).left ≡ span ∷ more → (written : Statement) → parsed_at (e.connections c).script span ≡ Ok written
         → (x : Statement) → check (schema_of e) written ≡ Ok x → IsStepped x → IsSame (begun c (opened c e) (Ok x)).1 after → IsTied after }
-{}
-
-/// A statement that is answered at once, without acts, while its connection has no transaction open leaves the core tied.
-pub fn quiet_law()
-    ensures { (e after : CoreState) (c : ℕ) (answer : Answer) → IsTied e → (e.connections c).work ≡ None → (e.connections c).transaction ≡ None → IsSame (answered c e answer []) after → IsTied after }
 {}
 
 /// A visit that is granted, after which the statement goes on, leaves the core tied: at level 3 and at the lower ones, at a position
@@ -106,15 +104,15 @@ pub fn answer_law()
 /// DROP while no transaction is open, which is a transaction of its own.
 pub fn end_law()
     ensures commits { (e after : CoreState) (c : ℕ) → IsTied e → e.stop ≡ None → (e.connections c).work ≡ None → (o : OpenTransaction) → (e.connections c).transaction ≡ Some o
-        → (span : Span) (more : List Span) → (e.connections c).left ≡ span ∷ more → (moment : ℕ) → IsSame (committed c moment (Some o) e) after → IsTied after }
-    ensures rolls_back { (e after : CoreState) (c : ℕ) (answer : Answer) → IsTied e → (e.connections c).work ≡ None → (o : OpenTransaction) → (e.connections c).transaction ≡ Some o
-        → (span : Span) (more : List Span) → (e.connections c).left ≡ span ∷ more → IsSame (answered c (rolled_back c e) answer []) after → IsTied after }
+        → (span : Span) (more : List Span) → (e.connections c).left ≡ span ∷ more → (written : Statement) → parsed_at (e.connections c).script span ≡ Ok written → (moment : ℕ) → IsSame (committed c moment (Some o) e) after → IsTied after }
+    ensures rolls_back { (e after : CoreState) (c : ℕ) → IsTied e → (e.connections c).work ≡ None → (o : OpenTransaction) → (e.connections c).transaction ≡ Some o
+        → (span : Span) (more : List Span) → (e.connections c).left ≡ span ∷ more → (written : Statement) → parsed_at (e.connections c).script span ≡ Ok written → IsSame (answered c (rolled_back c e) (Given RolledBack) []) after → IsTied after }
     ensures breaks_off { (e after : CoreState) (c : ℕ) (run : Run) → IsTied e → e.stop ≡ None → (e.connections c).work ≡ Some run → (cycle : List Edge) → IsSame (broken_off c e run cycle) after → IsTied after }
-    ensures closes { (e after : CoreState) (c : ℕ) → IsTied e → (e.connections c).work ≡ None → (o : OpenTransaction) → (e.connections c).transaction ≡ Some o → IsSame (closed c e) after → IsTied after }
+    ensures closes { (e after : CoreState) (c : ℕ) → IsTied e → (e.connections c).work ≡ None → (o : OpenTransaction) → (e.connections c).transaction ≡ Some o → (e.connections c).left ≡ [] → IsSame (closed c e) after → IsTied after }
     ensures goes_back { (e after : CoreState) (c : ℕ) → IsTied e → e.stop ≡ None → (e.connections c).work ≡ None → (span : Span) (more : List Span) → (e.connections c).left ≡ span ∷ more
-        → (save : Name × ℕ) (earlier : List (Name × ℕ)) → IsSame (back_to c save.0 (save ∷ earlier) e) after → IsTied after }
+        → (written : Statement) → parsed_at (e.connections c).script span ≡ Ok written → opens written ≡ true → (save : Name × ℕ) (earlier : List (Name × ℕ)) → IsSame (back_to c save.0 (save ∷ earlier) e) after → IsTied after }
     ensures alters { (e after : CoreState) (c : ℕ) → IsTied e → e.stop ≡ None → ((d : ℕ) → (e.connections d).transaction ≡ None) → (span : Span) (more : List Span) → (e.connections c).left ≡ span ∷ more
-        → (written : Statement) → parsed_at (e.connections c).script span ≡ Ok written → (moment : ℕ) (t : Tables) → apply_all (meaning e.now written).acts e.now ≡ Some t
+        → (written : Statement) → parsed_at (e.connections c).script span ≡ Ok written → changes_schema written ≡ true → (meaning e.now written).acts ≢ [] → (moment : ℕ) (t : Tables) → apply_all (meaning e.now written).acts e.now ≡ Some t
         → IsSame (altered c moment (answer_saying (next_number e) (meaning e.now written).answer) (meaning e.now written).acts t e) after → IsTied after }
 {}
 
@@ -132,4 +130,14 @@ pub fn steps_keep_tied()
 /// connections did since then.
 pub fn ready_law()
     ensures { (e : CoreState) (c : ℕ) (run : Run) → IsTied e → e.stop ≡ None → (e.connections c).work ≡ Some run → (change : Change) → next run ≡ ToChange change → IsReadyFor e change }
+{}
+
+/// The transcripts tell of this history. After every list of steps from the beginning, the numbers that COMMIT, CREATE and DROP are answered order the
+/// committed transactions of all connections in one history, each once; over it each statement at level 3, and each CREATE and DROP, is answered
+/// what it means over the tables that the transactions before it and the earlier entries of its own leave. So is each that the connections which have
+/// not ended have open.
+pub fn transcripts_tell()
+    ensures serial { (base : Tables) (scripts : List (List ℕ)) → IsTables base → (steps : List ℕ) (last : CoreState) → Runs (fresh base scripts) steps last → (history : List Commit) × IsSerialTold base last history }
+    // of a session with these transcripts it is the history
+    ensures session { (last : CoreState) (session : Session) (history : List Commit) → IsSessionOf last session → IsHistoryTold last history → IsHistory session history }
 {}
