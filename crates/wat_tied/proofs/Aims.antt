@@ -39,7 +39,7 @@ use Rattle.std.specs.Ordering.{is_gt}
 use Rattle.wat_scans.specs.declared.scan.Scan.{Scan}
 use Rattle.wat_scans.specs.declared.scan.Seen.{Seen}
 use Rattle.wat_scans.specs.declared.scan.Taken.{Taken}
-use Rattle.wat_scans.specs.Recorded.{AreTaken}
+use Rattle.wat_scans.specs.Recorded.{AreTaken, MetPass}
 use Rattle.wat_scans.specs.Running.{Run, after_change}
 use Rattle.wat_scans.specs.Scans.{Progress, row_taken, rows_taken, step_key, where_at, resumed, tested, began, begun, entered_at, entered, moved, visited_at, visited_place, visited}
 use Rattle.wat_scans.proofs.Rows.{get_within, get_none}
@@ -65,6 +65,7 @@ module _ (s t : law.State sql) (c : ℕ) (same : t.conns c ≡ s.conns c) (rows 
       by None m = tt
       by (Some w) m = record {
         meeting = m.meeting;
+        passes = m.passes;
         aims = λ writes l sources. let a = m.aims writes l sources in
             record { each = λ d has. let r = a.each d has in (r.0, r.1, aim_stays l run.made r.0 r.2); once = a.once; before = a.before };
       }
@@ -88,6 +89,7 @@ module _ (s t : law.State sql) (c : ℕ) (r : RowName) (ch : Change) (became : O
       by None m = tt
       by (Some w) m = record {
         meeting = m.meeting;
+        passes = m.passes;
         aims = λ writes l sources. let a = m.aims writes l sources in
             record { each = λ d has. let x = a.each d has in (x.0, x.1, aim_changed l run.made x.0 x.2); once = a.once; before = a.before };
       }
@@ -275,10 +277,11 @@ module _ (cat : Catalog) (p : ScanPlan) (ok : ScansEach cat p) (l : Listing) (so
           absurd (omega (arith, w, g))
 
 -- what is known where nothing is changed yet
-pub meets_unchanged : (s : law.State sql) (c : ℕ) (run : Run) → run.made ≡ [] → (o : Option Progress) → MeetsSo run.task.plan o
+pub meets_unchanged : (s : law.State sql) (c : ℕ) (run : Run) → run.made ≡ [] → (o : Option Progress) → MeetsSo run.task.plan o → MetPass run.task.plan o
     → (writes_rows run.task.statement ≡ true → (l : Listing) → run.task.plan.sources ≡ l ∷ [] → AimsSo s c run.task.plan l o) → HasMetSo s c run o
-meets_unchanged s c run none None meeting aims = tt
-meets_unchanged s c run none (Some w) meeting aims = record {
+meets_unchanged s c run none None meeting pass aims = tt
+meets_unchanged s c run none (Some w) meeting pass aims = record {
   meeting = meeting;
+  passes = pass;
   aims = λ writes l sources. subst (λ z. AreAims s c run.task.plan l z w) (sym none) (aims writes l sources);
 }

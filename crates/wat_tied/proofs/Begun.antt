@@ -13,6 +13,7 @@ use Rattle.wat_scans.specs.Running.{Run, begin, task_of}
 use Rattle.wat_scans.specs.Scans.{begun as begun_scans}
 use Rattle.wat_scans.specs.Told.{IsStepped}
 use Rattle.wat_scans.proofs.Going.{begin_goes}
+use Rattle.wat_scans.proofs.Passing.{begun_pass}
 use Rattle.wat_scans.proofs.Planned.{task_planned}
 use Rattle.wat_steps.specs.State.{OpenTransaction, ConnectionState, CoreState, schema_of, with_connection}
 use Rattle.wat_steps.specs.Answering.{IsSame, no_changes, opened, transaction_of}
@@ -48,7 +49,7 @@ begun_meets : (cat : Catalog) (s : law.State sql) (c level : ℕ) (x : Statement
 unfolding begin
 begun_meets cat s c level x ok =
     meets_unchanged s c (record { task = task_of cat x; level = level; progress = begun_scans (task_of cat x).plan; made = [] }) refl (begun_scans (task_of cat x).plan)
-    (begun_meeting cat (task_of cat x).plan ok) (λ writes l sources. begun_aims cat (task_of cat x).plan ok l sources s c)
+    (begun_meeting cat (task_of cat x).plan ok) (begun_pass (task_of cat x).plan) (λ writes l sources. begun_aims cat (task_of cat x).plan ok l sources s c)
 
 -- the connection with a transaction open, and this statement under way
 abbrev with_run : CoreState → ℕ → Statement → ConnectionState

@@ -1,5 +1,5 @@
 -- Each step of a statement under way leaves the core tied.
-use Rattle.std.proofs.Common.{◌≡◌, ℕ, Bool, true, false, List, [], Option, Some, None, refl, ap, ◌∙◌, subst, inl, inr}
+use Rattle.std.proofs.Common.{◌≡◌, ℕ, Bool, true, false, List, [], ◌∷◌, map, sym, Option, Some, None, refl, ap, ◌∙◌, subst, inl, inr}
 use Rattle.wat_value.specs.declared.change.Change.{Change}
 use Rattle.wat_value.specs.declared.change.Change.TheVariants as change
 use Rattle.wat_value.specs.Changes.{changed_table, row_before}
@@ -27,6 +27,14 @@ use Rattle.wat_tied.proofs.Ended.{deadlock_tied}
 use Rattle.wat_tied.proofs.Granted.{working, visit_tied}
 use Rattle.wat_tied.proofs.Keys as keys
 use Rattle.wat_tied.proofs.Refused.{refuse_tied, locked_tied, failed_tied, duplicate_tied}
+use Rattle.wat_parse.specs.declared.script.Span.{Span}
+use Rattle.wat_parse.specs.Parsing.{parsed_at}
+use Rattle.wat_value.specs.declared.change.Act.TheVariants.{OnRow}
+use Rattle.wat_meaning.specs.declared.reply.Reply.{Reply as Meant}
+use Rattle.wat_history.specs.Plain.{Plain}
+use Rattle.wat_steps.specs.Answering.{entry_at}
+use Rattle.wat_steps.specs.Statements.{answer_saying}
+use Rattle.wat_tied.proofs.Plainly.{reply_is_plain}
 use Rattle.wat_tied.proofs.Readied.{ready_now}
 use Rattle.wat_tied.proofs.Replying.{reply_tied}
 use Rattle.wat_tied.proofs.Updated.{waiting_tied}
@@ -42,6 +50,16 @@ finds e l (change.Delete n old) listing ready free = ready.stands old refl
 -- the next change is ready
 pub next_ready : (e : CoreState) (c : ℕ) (run : Run) → (tied : IsTied e) → e.stop ≡ None → (e.connections c).work ≡ Some run → (ch : Change) → next run ≡ ToChange ch → IsReadyFor e ch
 next_ready e c run tied going under ch coming = ready_now e tied.ghost tied.ties c run (working e tied c run going under) (subst (MeetsWith tied.ghost.state c) under (tied.ties.meets going c)) ch coming
+
+-- the reply is plain
+pub reply_plain_now : (e : CoreState) (c : ℕ) (run : Run) → (tied : IsTied e) → e.stop ≡ None → (e.connections c).work ≡ Some run → (r : Meant) → next run ≡ ToReply r → (span : Span) (more : List Span) → (e.connections c).left ≡ span ∷ more
+    → (least : ℕ) → Plain least (schema_of e) (record { read = parsed_at (e.connections c).script span; entry = entry_at span (e.connections c).level (answer_saying 0 r) (map OnRow run.made) })
+reply_plain_now e c run tied going under r coming span more first least =
+    let was = working e tied c run going under in
+    let both : was.span ∷ was.more ≡ span ∷ more = sym was.first ∙ first in
+    let same : was.span ≡ span = cc in
+    subst (λ (z : Span). Plain least (schema_of e) (record { read = parsed_at (e.connections c).script z; entry = entry_at z (e.connections c).level (answer_saying 0 r) (map OnRow run.made) })) same
+    (reply_is_plain e tied.ghost tied.ties c run was (subst (MeetsWith tied.ghost.state c) under (tied.ties.meets going c)) r coming least)
 
 module _ (e after : CoreState) (c : ℕ) (a : Progressed) (run : Run) (tied : IsTied e) (going : e.stop ≡ None) (under : (e.connections c).work ≡ Some run) where
   blocked_tied : (wants : List Want) (against : Against) (blocking : Bool) → IsBlocked c e run wants against blocking a after → IsTied after

@@ -38,6 +38,7 @@ use Rattle.wat_scans.specs.Sources.{IsRowAt}
 use Rattle.wat_scans.proofs.Found.{rows_fit}
 use Rattle.wat_scans.specs.Told.{IsUnderWay}
 use Rattle.wat_scans.proofs.Going.{none_before_visit, visit_goes}
+use Rattle.wat_scans.proofs.Passing.{visited_pass}
 use Rattle.wat_scans.proofs.Planned.{task_planned}
 use Rattle.wat_scans.proofs.Rows.{step_listing}
 use Rattle.wat_visits.specs.Asked.{visit_of, primary_in, row_of_place, row_passes}
@@ -160,7 +161,7 @@ module _ (e : CoreState) (g : Ghost) (ties : Ties e g) (c : ℕ) (run : Run) (un
           ))
 
       meets_then : MeetsWith t c (Some later)
-      meets_then = meets_unchanged t c later none later.progress (visited_meeting (schema_of e) run.task.plan planned scan ts met seen met_before.meeting (look e.now) seen_row) aims_later
+      meets_then = meets_unchanged t c later none later.progress (visited_meeting (schema_of e) run.task.plan planned scan ts met seen met_before.meeting (look e.now) seen_row) (visited_pass run.task.plan scan ts met seen met_before.passes) aims_later
 
   module _ (item : Item sql) (reads : AreReads was.reads → AreReads (item ∷ was.reads)) (three : nat_le 3 run.level ≡ true → item ≡ visit_item run scan seen) where
     pub goes_on : IsGoing (schema_of e) k later (item ∷ g.work c)

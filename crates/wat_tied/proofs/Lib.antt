@@ -19,6 +19,7 @@ pub mod Moved
 pub mod Next
 pub mod Placed
 pub mod Places
+pub mod Plainly
 pub mod Quiet
 pub mod Readied
 pub mod Reading

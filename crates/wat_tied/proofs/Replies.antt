@@ -82,6 +82,9 @@ made_on task met (s.Release name) = tt
 made_on task met (s.SetLevel level) = tt
 made_on task met (s.SetBlocking on) = tt
 
+pub never_altering : (task : Task) (met : List Combination) (x : Statement) (reply : Reply) (alteration : _) → made_by task met x ≡ Ok (Altering reply alteration) → ⊥
+never_altering task met x reply alteration h = subst IsMadeOnRows h (made_on task met x)
+
 reply_on : (run : Run) (r : Reply) → next run ≡ ToReply r → IsOnRows r
 reply_on run r h = by (made_by run.task d.at.met run.task.statement) d.is (made_on run.task d.at.met run.task.statement)
   where

@@ -26,7 +26,7 @@ use Rattle.wat_plan.specs.Plans.{ScanPlan, listing_of_step}
 use Rattle.wat_scans.specs.declared.scan.Scan.{Scan}
 use Rattle.wat_scans.specs.declared.scan.Taken.{Taken}
 use Rattle.wat_scans.specs.Look.{IsOf}
-use Rattle.wat_scans.specs.Recorded.{IsAt, AreTaken}
+use Rattle.wat_scans.specs.Recorded.{IsAt, AreTaken, AllPass}
 use Rattle.wat_scans.specs.Running.{Run, items_of, row_changed, defs_of}
 use Rattle.wat_scans.specs.Scans.{Progress, step_key}
 use Rattle.wat_scans.specs.Told.{IsStepped, IsUnderWay}
@@ -175,6 +175,7 @@ pub record AreAims (s : law.State sql) (c : ℕ) (p : ScanPlan) (l : Listing) (m
 
 pub record HasMet (s : law.State sql) (c : ℕ) (run : Run) (w : Progress) : Type 0 where
   pub meeting : IsMeeting run.task.plan w
+  pub passes : AllPass run.task.plan w.met
   pub aims : writes_rows run.task.statement ≡ true → (l : Listing) → run.task.plan.sources ≡ l ∷ [] → AreAims s c run.task.plan l run.made w
 
 abbrev pub HasMetSo : law.State sql → ℕ → Run → Option Progress → Type 0

@@ -1,4 +1,4 @@
-ghost use Rattle.std.specs.Prelude.{◌≡◌, ◌≢◌, ℕ, true, [], ◌∷◌, List, None, Some, Ok};
+ghost use Rattle.std.specs.Prelude.{◌≡◌, ◌≢◌, ℕ, true, map, [], ◌∷◌, List, None, Some, Ok};
 ghost use Rattle.wat_value.specs.declared.change.Change.{Change};
 ghost use Rattle.wat_value.specs.Changes.{changed_table, row_before};
 ghost use Rattle.wat_value.specs.Indexes.{index_numbers};
@@ -34,10 +34,12 @@ ghost use Rattle.wat_scans.specs.Scans.{Progress};
 ghost use Rattle.wat_history.specs.Connection.{Part, opens};
 ghost use Rattle.wat_history.specs.History.{Commit, IsHistory};
 ghost use Rattle.wat_conn.specs.declared.session.Session.{Session};
+ghost use Rattle.wat_history.specs.Plain.{Plain};
+ghost use Rattle.wat_value.specs.declared.change.Act.TheVariants.{OnRow};
 ghost use Rattle.wat_history.specs.Serial.{Follows, Serial};
 ghost use Rattle.wat_steps.specs.State.{OpenTransaction, CoreState, Progressed, schema_of};
 ghost use Rattle.wat_steps.specs.Fresh.{fresh};
-ghost use Rattle.wat_steps.specs.Answering.{IsSame, answered, opened, rolled_back};
+ghost use Rattle.wat_steps.specs.Answering.{IsSame, entry_at, answered, opened, rolled_back};
 ghost use Rattle.wat_steps.specs.Asking.{asking, refused, broken_off};
 ghost use Rattle.wat_steps.specs.Statements.{begun, back_to, committed, next_number, answer_saying, altered};
 ghost use Rattle.wat_steps.specs.Visiting.{IsSeen, wants_of, visited};
@@ -140,4 +142,11 @@ pub fn transcripts_tell()
     ensures serial { (base : Tables) (scripts : List (List ℕ)) → IsTables base → (steps : List ℕ) (last : CoreState) → Runs (fresh base scripts) steps last → (history : List Commit) × IsSerialTold base last history }
     // of a session with these transcripts it is the history
     ensures session { (last : CoreState) (session : Session) (history : List Commit) → IsSessionOf last session → IsHistoryTold last history → IsHistory session history }
+{}
+
+/// The reply to a statement under way is plain, at every level: an UPDATE or DELETE changed rows that WHERE passes, each once and in key order, each as SET
+/// makes it or deleted; an INSERT of VALUES made just the rows that they mean; and so many changes were made as the reply says.
+pub fn plain_law()
+    ensures { (e : CoreState) (c : ℕ) (run : Run) → IsTied e → e.stop ≡ None → (e.connections c).work ≡ Some run → (reply : Meant) → next run ≡ ToReply reply → (span : Span) (more : List Span) → (e.connections c).left ≡ span ∷ more
+        → (least : ℕ) → Plain least (schema_of e) (record { read = parsed_at (e.connections c).script span; entry = entry_at span (e.connections c).level (answer_saying 0 reply) (map OnRow run.made) }) }
 {}

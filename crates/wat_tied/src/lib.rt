@@ -4,6 +4,6 @@
 mod laws;
 
 pub use laws::{
-    answer_law, begun_law, change_law, end_law, ready_law, steps_keep_tied, tied_laws,
+    answer_law, begun_law, change_law, end_law, plain_law, ready_law, steps_keep_tied, tied_laws,
     transcripts_tell, visit_law,
 };
