@@ -1,0 +1,3 @@
+pub mod Inheriting
+pub mod Scans
+pub mod Visiting
