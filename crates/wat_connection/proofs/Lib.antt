@@ -1,0 +1,2 @@
+pub mod SavepointLemmas
+pub mod TransactionLemmas

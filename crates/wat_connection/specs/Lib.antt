@@ -1,0 +1,4 @@
+pub mod Reading
+pub mod Savepoints
+pub mod Transactions
+pub mod Room
