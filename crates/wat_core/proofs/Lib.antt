@@ -1,0 +1,4 @@
+pub mod CoreLemmas
+pub mod PartLemmas
+pub mod TellLemmas
+pub mod OpenLemmas

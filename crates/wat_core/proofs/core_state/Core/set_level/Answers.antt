@@ -1,0 +1,8 @@
+use Rattle.wat_steps.specs.State.{ConnectionState}
+use Rattle.wat_core.proofs.CoreLemmas.{anew}
+use Rattle.wat_core.proofs.core_state.Core.set_level.Goals as goal
+
+pub returns : goal.returns
+returns c =
+    λ e has. anew e c.args.self.now c.self.inside.connections.items c.self.inside.locks c.args.conn c.index_mut.result.now c.set_level.new.self (λ (k : ConnectionState). record k { level = c.args.level })
+    c.self.view_is has c.requires.from_one c.requires.within c.index_mut.ensures.value c.set_level.ensures

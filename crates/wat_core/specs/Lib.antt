@@ -1,0 +1,4 @@
+pub mod CoreParts
+pub mod Opened
+pub mod Parts
+pub mod Telling
