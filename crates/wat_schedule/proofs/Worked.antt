@@ -9,7 +9,7 @@ use Rattle.std.proofs.lemmas.List.{get_or_append_left}
 use Rattle.std.proofs.lemmas.List.Elements.{All-cons, All-nil}
 use Rattle.wat_schedule.specs.declared.item.Item.{Item}
 use Rattle.wat_schedule.specs.Schedule.{IsConnection, item_text}
-use Rattle.wat_schedule.specs.Worked.{IsNone, MarkCases, NumberCases, SomeCases, step, turn}
+use Rattle.wat_schedule.specs.Worked.{IsNone, MarkCases, NumberCases, OtherCases, TwoCases, step, turn}
 use Rattle.wat_schedule.proofs.Written.{first_digit, item_injective, no_schedule}
 
 abbrev is_connection : ℕ → ℕ → Bool
@@ -46,12 +46,25 @@ past count other small small_other far item is e =
 none : (count : ℕ) (text : List ℕ) (k : ℕ) (word : List ℕ) → count < 2 ^ 64 → 0 < length text → k < length (slice_split (λ b. b == 32) text) → word ≡ get_or (slice_split (λ b. b == 32) text) k word → ((item : Item) → IsConnection count item.conn → word ≢ item_text item) → IsNone count text
 none count text k word small some lt at other xs = no_schedule count text k word small some lt at other xs
 
-pub some_cases : SomeCases
+pub two_cases : TwoCases
 unfolding digits
-some_cases = (
-  record { spelled = refl; within = within 1 [] refl },
-  record { spelled = refl; within = within 2 (map turn (1 ∷ 1 ∷ 2 ∷ 2 ∷ 2 ∷ [])) refl },
+two_cases = (
+  record { spelled = refl; within = within 2 (map turn (1 ∷ 1 ∷ 2 ∷ [])) refl },
+  record { spelled = refl; within = within 2 (map turn (1 ∷ 2 ∷ 2 ∷ [])) refl },
   record { spelled = refl; within = within 2 (map turn (2 ∷ 1 ∷ 2 ∷ [])) refl },
+  record { spelled = refl; within = within 2 (map turn (1 ∷ 2 ∷ 1 ∷ 2 ∷ [])) refl },
+  record { spelled = refl; within = within 2 (map turn (1 ∷ 1 ∷ 2 ∷ 2 ∷ 1 ∷ [])) refl },
+  record { spelled = refl; within = within 2 (map turn (1 ∷ 1 ∷ 2 ∷ 2 ∷ 2 ∷ [])) refl },
+  record { spelled = refl; within = within 2 (map turn (1 ∷ 1 ∷ 2 ∷ 2 ∷ 1 ∷ 2 ∷ [])) refl },
+  record { spelled = refl; within = within 2 (map turn (2 ∷ 1 ∷ 1 ∷ 1 ∷ 1 ∷ 1 ∷ [])) refl },
+  record { spelled = refl; within = within 2 (map turn (1 ∷ 1 ∷ 1 ∷ 1 ∷ 1 ∷ 2 ∷ 2 ∷ 2 ∷ 2 ∷ [])) refl },
+  record { spelled = refl; within = within 2 (map turn (1 ∷ 1 ∷ 1 ∷ 2 ∷ 2 ∷ 2 ∷ 2 ∷ 2 ∷ 2 ∷ [])) refl },
+)
+
+pub other_cases : OtherCases
+unfolding digits
+other_cases = (
+  record { spelled = refl; within = within 1 [] refl },
   record { spelled = refl; within = within 3 (map turn (1 ∷ 2 ∷ 3 ∷ 1 ∷ 2 ∷ 3 ∷ [])) refl },
   record { spelled = refl; within = within 2 (turn 1 ∷ step 2 ∷ []) refl },
   record { spelled = refl; within = within 64 (step 64 ∷ turn 10 ∷ []) refl },

@@ -15,10 +15,15 @@ step conn = record { conn = conn; single = true }
 abbrev pub IsNone : ℕ → List ℕ → Type 0
 IsNone count text = (items : List Item) → ¬ IsSchedule count text items
 
--- schedules, each with what it stands for
-abbrev pub SomeCases : Type 0
-SomeCases =
-    IsSchedule 1 [] [] × IsSchedule 2 (codes "1 1 2 2 2") (map turn (1 ∷ 1 ∷ 2 ∷ 2 ∷ 2 ∷ [])) × IsSchedule 2 (codes "2 1 2") (map turn (2 ∷ 1 ∷ 2 ∷ [])) × IsSchedule 3 (codes "1 2 3 1 2 3") (map turn (1 ∷ 2 ∷ 3 ∷ 1 ∷ 2 ∷ 3 ∷ [])) × IsSchedule 2 (codes "1 2.") (turn 1 ∷ step 2 ∷ []) × IsSchedule 64 (codes "64. 10") (step 64 ∷ turn 10 ∷ [])
+-- schedules of two connections, each with what it stands for
+abbrev pub TwoCases : Type 0
+TwoCases =
+    IsSchedule 2 (codes "1 1 2") (map turn (1 ∷ 1 ∷ 2 ∷ [])) × IsSchedule 2 (codes "1 2 2") (map turn (1 ∷ 2 ∷ 2 ∷ [])) × IsSchedule 2 (codes "2 1 2") (map turn (2 ∷ 1 ∷ 2 ∷ [])) × IsSchedule 2 (codes "1 2 1 2") (map turn (1 ∷ 2 ∷ 1 ∷ 2 ∷ [])) × IsSchedule 2 (codes "1 1 2 2 1") (map turn (1 ∷ 1 ∷ 2 ∷ 2 ∷ 1 ∷ [])) × IsSchedule 2 (codes "1 1 2 2 2") (map turn (1 ∷ 1 ∷ 2 ∷ 2 ∷ 2 ∷ [])) × IsSchedule 2 (codes "1 1 2 2 1 2") (map turn (1 ∷ 1 ∷ 2 ∷ 2 ∷ 1 ∷ 2 ∷ [])) × IsSchedule 2 (codes "2 1 1 1 1 1") (map turn (2 ∷ 1 ∷ 1 ∷ 1 ∷ 1 ∷ 1 ∷ [])) × IsSchedule 2 (codes "1 1 1 1 1 2 2 2 2") (map turn (1 ∷ 1 ∷ 1 ∷ 1 ∷ 1 ∷ 2 ∷ 2 ∷ 2 ∷ 2 ∷ [])) × IsSchedule 2 (codes "1 1 1 2 2 2 2 2 2") (map turn (1 ∷ 1 ∷ 1 ∷ 2 ∷ 2 ∷ 2 ∷ 2 ∷ 2 ∷ 2 ∷ []))
+
+-- the empty schedule, one of three connections, and some with single steps
+abbrev pub OtherCases : Type 0
+OtherCases =
+    IsSchedule 1 [] [] × IsSchedule 3 (codes "1 2 3 1 2 3") (map turn (1 ∷ 2 ∷ 3 ∷ 1 ∷ 2 ∷ 3 ∷ [])) × IsSchedule 2 (codes "1 2.") (turn 1 ∷ step 2 ∷ []) × IsSchedule 64 (codes "64. 10") (step 64 ∷ turn 10 ∷ [])
 
 -- texts with a wrong number
 abbrev pub NumberCases : Type 0

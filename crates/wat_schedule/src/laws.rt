@@ -2,7 +2,7 @@
 ghost use Rattle.std.specs.Prelude.{◌≡◌, ◌<◌, ◌^◌, ℕ, List};
 ghost use Rattle.wat_schedule.specs.declared.item.Item.{Item};
 ghost use Rattle.wat_schedule.specs.Schedule.{IsSchedule};
-ghost use Rattle.wat_schedule.specs.Worked.{SomeCases, NumberCases, MarkCases};
+ghost use Rattle.wat_schedule.specs.Worked.{TwoCases, OtherCases, NumberCases, MarkCases};
 
 /// A text is the schedule of one list of items at most.
 pub fn one_reading_law()
@@ -11,7 +11,8 @@ pub fn one_reading_law()
 
 /// Texts that are schedules and texts that are none. The function does nothing: it states the cases.
 pub fn worked_cases()
-    ensures some { SomeCases }
+    ensures two { TwoCases }
+    ensures others { OtherCases }
     ensures numbers { NumberCases }
     ensures marks { MarkCases }
 {}
