@@ -26,6 +26,10 @@ pub ok_to : {T E : Type 0} (r : Result T E) (P Q : T → Type 0) → ((x : T) �
 ok_to (Ok x) P Q f is = f x is
 ok_to (Err e) P Q f is = tt
 
+pub any_ok : {T E : Type 0} (r : Result T E) (Q : Type 0) → Q → IfOk r (λ x. Q)
+any_ok (Ok x) Q is = is
+any_ok (Err e) Q is = tt
+
 pub err_to : {T E : Type 0} (r : Result T E) (P Q : E → Type 0) → ((e : E) → P e → Q e) → IfErr r P → IfErr r Q
 err_to (Ok x) P Q f is = tt
 err_to (Err e) P Q f is = f e is

@@ -184,3 +184,10 @@ module _ {D : Type 0} {g : Ghosts D} (tells : g.tells_content) (disk after : D) 
     settled_out now t applies is = goes_out (λ d o. HoldsSafe (g.told d) o (settled t))
         (settled_so tells x y (header_of (pages_of objects)).frames noted s now t (goes_in (λ d o. HoldsSafe (g.told d) o s) h) moves brings
         (goes_in (λ d o. AppliesBodies (drop (header_of (pages_of objects)).frames (bodies ((g.told d).content 2))) s now) applies) is)
+
+    -- where the records lead
+    pub later_out : (now : State) × AppliesBodies (later_in (g.told disk) objects) s now
+    later_out = (
+      brings.now,
+      subst (λ (d : D). AppliesBodies (drop (header_of (pages_of objects)).frames (bodies ((g.told d).content 2))) s brings.now) disk_in brings.applied,
+    )

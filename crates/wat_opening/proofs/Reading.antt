@@ -134,6 +134,23 @@ safe_loaded old new loaded there l only stops safe =
 pub frames_loaded : (old new : Told) (loaded : Loaded) → (l : IsLoaded old.content new loaded) → l.head.frames ≡ (header_of (pages_of loaded.objects)).frames
 frames_loaded old new loaded l = sym (ap (λ (h : Head). h.frames) l.tells)
 
+-- they are formed, where the records lead on to a state
+pub formed_so : (old new : Told) (loaded : Loaded) (l : IsLoaded old.content new loaded) → OnlyPages old.content new.content → (now : State) → AppliesBodies (later_in new loaded.objects) l.saved now → IsFormed old.content
+formed_so old new loaded l only now applies =
+    let log : new.content 2 ≡ old.content 2 = only 2 (omega arith) in
+    let frames : (header_of (pages_of loaded.objects)).frames ≡ l.head.frames = ap (λ (h : Head). h.frames) l.tells in
+    record {
+      head = l.head;
+      header = l.header;
+      saved = l.saved;
+      stands = l.stands;
+      log = l.log;
+      now = now;
+      later =
+          subst (λ (n : ℕ). AppliesBodies (drop n (bodies (old.content 2))) l.saved now) frames
+          (subst (λ (log : List ℕ). AppliesBodies (drop (header_of (pages_of loaded.objects)).frames (bodies log)) l.saved now) log applies);
+    }
+
 -- ---- where the records fail
 
 pub fails_in_records : (refusal : PageRefusal) (files : Image) (told : Told) (loaded : Loaded) (l : IsLoaded files told loaded) → OnlyPages files told.content

@@ -4,7 +4,7 @@ ghost use Rattle.wat_faults.specs.Faults.{Rose};
 ghost use Rattle.wat_gate.specs.Bodies.{bodies};
 ghost use Rattle.wat_images.specs.Refusal.{IfDamaged as IfDamagedPages, IfPageLimit as IfLimitedPages};
 ghost use Rattle.wat_schema.specs.Tables.{Tables};
-ghost use Rattle.wat_files.specs.Formed.{FailsAt, Opens};
+ghost use Rattle.wat_files.specs.Formed.{FailsAt, IsFormed, Opens};
 ghost use Rattle.wat_keeping.specs.Durable.{IsDatabase, LeavesEither};
 ghost use Rattle.wat_repeating.specs.OnPages.{IsFull};
 ghost use Rattle.wat_store.specs.Store.{told_of, limit_in, noted_in, IsStoreOf, HoldsIn, CountsAll};
@@ -27,6 +27,7 @@ fn open_files<D: Disk>(alloc: Global, disk: D) -> Result<Store<D>, Refused<D>>
     ensures stops { D.tells_content → (limit : ℕ) (t : Tables) → IsOnDisk (D.told disk) → IsDatabase limit t (D.told disk).content → IfOk result (λ store. EachStop (D.told disk) (told_of store) (LeavesEither limit t t)) }
     ensures stops_refused { D.tells_content → (limit : ℕ) (t : Tables) → IsOnDisk (D.told disk) → IsDatabase limit t (D.told disk).content → IfErr result (λ refused. EachStop (D.told disk) (D.told refused.disk) (LeavesEither limit t t)) }
     ensures formed { D.tells_content → (t : Tables) → IsOnDisk (D.told disk) → Opens (D.told disk).content t → IfOk result (λ store. HoldsIn store (settled t)) }
+    ensures only { D.tells_content → IsOnDisk (D.told disk) → IfOk result (λ store. IsFormed (D.told disk).content) }
     ensures saved { D.tells_content → IfOk result (λ store. CountsAll store) }
     ensures none { D.tells_content → IfOk result (λ store. bodies ((told_of store).content 1) ≡ []) }
     ensures flushed { IfOk result (λ store. noted_in store ≡ []) }
@@ -59,6 +60,9 @@ pub fn open<D: Disk>(alloc: Global, disk: D) -> Result<Store<D>, OpenRefusal<D>>
 
     // Also where the pages of the files don't agree with their log, the store has the tables that they open to.
     ensures formed { D.tells_content → (t : Tables) → IsOnDisk (D.told disk) → Opens (D.told disk).content t → IfOk result (λ store. HoldsIn store (settled t)) }
+
+    // It is Ok only on files that are those of a database.
+    ensures only { D.tells_content → IsOnDisk (D.told disk) → IfOk result (λ store. IsFormed (D.told disk).content) }
 
     // The header counts all frames of the log then, the before file has no images, and nothing is noted.
     ensures saved { D.tells_content → IfOk result (λ store. CountsAll store) }

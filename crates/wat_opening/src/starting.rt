@@ -86,6 +86,7 @@ pub(crate) fn start<D: Disk>(alloc: Global, disk: D, loaded: Loaded) -> Result<S
     ensures limit { D.tells_content → (limit : ℕ) (t : Tables) → IsRead (D.told disk) loaded.objects limit t → IfOk result (λ store. limit_in store ≡ limit) }
 
     ensures restored { D.tells_content → (s now : State) (t : Tables) → HoldsSafe (D.told disk) loaded.objects s → AppliesBodies (later_in (D.told disk) loaded.objects) s now → undone now ≡ Some t → IfOk result (λ store. HoldsIn store (settled t)) }
+    ensures brought { D.tells_content → (s : State) → HoldsSafe (D.told disk) loaded.objects s → IfOk result (λ store. (now : State) × AppliesBodies (later_in (D.told disk) loaded.objects) s now) }
     ensures saved { D.tells_content → IfOk result (λ store. CountsAll store) }
     ensures none { D.tells_content → IfOk result (λ store. bodies ((told_of store).content 1) ≡ []) }
     ensures flushed { IfOk result (λ store. noted_in store ≡ []) }

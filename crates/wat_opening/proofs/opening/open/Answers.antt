@@ -1,7 +1,7 @@
 use Rattle.std.proofs.Common.{◌≡◌, false, true, Err, sym, ◌∙◌, ap, subst}
 use Rattle.wat_disk.specs.Disk.{Image}
 use Rattle.wat_images.specs.declared.refusal.PageRefusal.{PageRefusal}
-use Rattle.wat_files.specs.Formed.{FailsAt, Opens}
+use Rattle.wat_files.specs.Formed.{FailsAt, IsFormed, Opens}
 use Rattle.wat_keeping.specs.Durable.{IsDatabase}
 use Rattle.wat_repeating.specs.OnPages.{IsFull}
 use Rattle.wat_store.specs.Store.{told_of}
@@ -43,6 +43,14 @@ returns-in-Ok-clause-formed g c tells t there opens =
     let same = c.are_empty.ensures.content in
     let stops = c.are_empty.ensures.stops in
     c.in-Ok.ensures.formed tells t (read_there old mid same stops there) (subst (λ (files : Image). Opens files t) (read_content old mid same stops) opens)
+
+pub returns-in-Ok-clause-only : goal.returns-in-Ok-clause-only
+returns-in-Ok-clause-only g c tells there =
+    let old = g.D.Disk.told c.args.disk in
+    let mid = g.D.Disk.told c.are_empty.new.disk in
+    let same = c.are_empty.ensures.content in
+    let stops = c.are_empty.ensures.stops in
+    subst IsFormed (sym (read_content old mid same stops)) (c.in-Ok.ensures.only tells (read_there old mid same stops there))
 
 pub returns-in-Ok-clause-empty : goal.returns-in-Ok-clause-empty
 returns-in-Ok-clause-empty g c tells are = absurd (let bad : true ≡ false = sym ((c.in-Ok-false.ensures.empty tells).1 are) ∙ c.in-Ok-false.field-0-test in cc)

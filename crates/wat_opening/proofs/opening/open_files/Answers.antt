@@ -4,13 +4,15 @@ use Rattle.wat_images.specs.declared.refusal.PageRefusal.TheVariants.{DiskFault}
 use Rattle.wat_images.specs.Refusal.{IfDamaged}
 use Rattle.wat_cells.proofs.Then.{damaged_to}
 use Rattle.wat_disk.specs.Disk.{EachStop}
-use Rattle.wat_files.specs.Formed.{FailsInRecords, FailsAt}
+use Rattle.wat_replay.specs.State.{State}
+use Rattle.wat_files.specs.Formed.{AppliesBodies, IsFormed, FailsInRecords, FailsAt}
 use Rattle.wat_keeping.specs.Durable.{LeavesEither}
 use Rattle.wat_keeping.proofs.Calls.{call_behind}
 use Rattle.wat_repeating.proofs.Moving.{not_limited}
 use Rattle.wat_store.specs.Store.{told_of}
+use Rattle.wat_opening.specs.Bringing.{later_in}
 use Rattle.wat_opening.specs.Opening.{LeavesPages}
-use Rattle.wat_opening.proofs.Reading.{load_stops, read_so, are_read, safe_loaded, later_now, frames_loaded, fails_in_records}
+use Rattle.wat_opening.proofs.Reading.{load_stops, read_so, are_read, safe_loaded, later_now, frames_loaded, formed_so, fails_in_records}
 use Rattle.wat_opening.proofs.Answering.{ok_to, err_to, any_damage, rose_then, leaves_then}
 use Rattle.wat_opening.proofs.opening.open_files.Goals as goal
 
@@ -91,3 +93,12 @@ returns-in-Ok-clause-cause g c =
     err_to c.start.result (λ refused. refused.why ≡ DiskFault → Rose mid.faults (g.D.Disk.told refused.disk).faults) (λ refused. refused.why ≡ DiskFault → Rose old.faults (g.D.Disk.told refused.disk).faults)
     (λ refused rose fault. rose_then old.faults mid.faults (g.D.Disk.told refused.disk).faults c.load.ensures.cause.later (rose fault))
     c.start.ensures.cause
+
+pub returns-in-Ok-clause-only : goal.returns-in-Ok-clause-only
+returns-in-Ok-clause-only g c tells there =
+    let old = g.D.Disk.told c.args.disk in
+    let mid = g.D.Disk.told c.load.new.disk in
+    let l = c.in-Ok.ensures.loaded tells in
+    ok_to c.start.result (λ store. (now : State) × AppliesBodies (later_in mid c.in-Ok.loaded.objects) l.saved now) (λ store. IsFormed old.content)
+    (λ store led. formed_so old mid c.in-Ok.loaded l (c.load.ensures.others tells) led.0 led.1)
+    (c.start.ensures.brought tells l.saved (safe_loaded old mid c.in-Ok.loaded there l (c.load.ensures.others tells) (c.load.ensures.stops tells) (c.in-Ok.ensures.safe tells)))

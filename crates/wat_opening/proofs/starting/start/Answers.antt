@@ -6,7 +6,7 @@ use Rattle.wat_images.specs.Refusal.{IfDamaged}
 use Rattle.wat_pages.specs.declared.header.Header.{Header}
 use Rattle.wat_pages.specs.Pages.{limit_of, header_of}
 use Rattle.wat_replay.specs.State.{State, IsLawful}
-use Rattle.wat_files.specs.Formed.{FailsInRecords}
+use Rattle.wat_files.specs.Formed.{AppliesBodies, FailsInRecords}
 use Rattle.wat_keeping.specs.Durable.{LeavesEither}
 use Rattle.wat_keeping.proofs.Calls.{call_behind}
 use Rattle.wat_objects.specs.Objects.{pages_of}
@@ -15,9 +15,9 @@ use Rattle.wat_repeating.proofs.Moving.{not_damaged}
 use Rattle.wat_store.specs.Parts.{StopsAt}
 use Rattle.wat_store.specs.Store.{told_of, limit_in}
 use Rattle.wat_opening.specs.Opening.{settled, LeavesPages}
-use Rattle.wat_opening.specs.Bringing.{BringsUp}
-use Rattle.wat_opening.proofs.Brought.{faults_out, open_out, safe_in, counts_out, left_out, stops_out, store_out, limit_then, safe_out, settled_out}
-use Rattle.wat_opening.proofs.Answering.{ok_to, err_to, any_damage, rose_then}
+use Rattle.wat_opening.specs.Bringing.{BringsUp, later_in}
+use Rattle.wat_opening.proofs.Brought.{faults_out, open_out, safe_in, counts_out, left_out, stops_out, store_out, limit_then, safe_out, settled_out, later_out}
+use Rattle.wat_opening.proofs.Answering.{any_ok, ok_to, err_to, any_damage, rose_then}
 use Rattle.wat_opening.proofs.starting.start.Goals as goal
 
 pub finish-requires-clause-known : goal.finish-requires-clause-known
@@ -63,6 +63,12 @@ returns-in-Ok-clause-restored g c tells s now t h applies is =
     let frames : c.header-header.result.now.frames ≡ (header_of (pages_of c.args.loaded.objects)).frames = ap (λ (h : Header). h.frames) (c.header-header.ensures ∙ ap header_of c.pages.ensures) in
     let brings : (s : State) → Stands c.new-on.result s → IsLawful s → BringsUp c.new-on.result c.bring_up.new.on (header_of (pages_of c.args.loaded.objects)).frames c.bring_up.new.log s = λ s stands lawful. subst (λ (n : ℕ). BringsUp c.new-on.result c.bring_up.new.on n c.bring_up.new.log s) frames (c.in-Ok.ensures.brings s stands lawful) in
     c.finish.ensures.holds tells (settled t) (settled_out tells c.args.disk c.into_parts-disk.result.0 c.args.loaded.objects c.into_parts-disk.result.1 c.args.loaded.log c.bring_up.new.log c.new-on.result c.bring_up.new.on c.new-on.ensures.disk c.new-on.ensures.objects c.new-on.ensures.going c.into_parts-disk.ensures.disk c.into_parts-disk.ensures.objects c.bring_up.ensures.moves c.bring_up.ensures.gate s h (brings s (safe_in tells c.args.disk c.into_parts-disk.result.0 c.args.loaded.objects c.into_parts-disk.result.1 c.args.loaded.log c.bring_up.new.log c.new-on.result c.bring_up.new.on c.new-on.ensures.disk c.new-on.ensures.objects c.new-on.ensures.going c.into_parts-disk.ensures.disk c.into_parts-disk.ensures.objects c.bring_up.ensures.moves c.bring_up.ensures.gate s h) h.lawful) now t applies is)
+
+pub returns-in-Ok-clause-brought : goal.returns-in-Ok-clause-brought
+returns-in-Ok-clause-brought g c tells s h =
+    let frames : c.header-header.result.now.frames ≡ (header_of (pages_of c.args.loaded.objects)).frames = ap (λ (h : Header). h.frames) (c.header-header.ensures ∙ ap header_of c.pages.ensures) in
+    let brings : (s : State) → Stands c.new-on.result s → IsLawful s → BringsUp c.new-on.result c.bring_up.new.on (header_of (pages_of c.args.loaded.objects)).frames c.bring_up.new.log s = λ s stands lawful. subst (λ (n : ℕ). BringsUp c.new-on.result c.bring_up.new.on n c.bring_up.new.log s) frames (c.in-Ok.ensures.brings s stands lawful) in
+    any_ok c.finish.result ((now : State) × AppliesBodies (later_in (g.D.Disk.told c.args.disk) c.args.loaded.objects) s now) (later_out tells c.args.disk c.into_parts-disk.result.0 c.args.loaded.objects c.into_parts-disk.result.1 c.args.loaded.log c.bring_up.new.log c.new-on.result c.bring_up.new.on c.new-on.ensures.disk c.new-on.ensures.objects c.new-on.ensures.going c.into_parts-disk.ensures.disk c.into_parts-disk.ensures.objects c.bring_up.ensures.moves c.bring_up.ensures.gate s h (brings s (safe_in tells c.args.disk c.into_parts-disk.result.0 c.args.loaded.objects c.into_parts-disk.result.1 c.args.loaded.log c.bring_up.new.log c.new-on.result c.bring_up.new.on c.new-on.ensures.disk c.new-on.ensures.objects c.new-on.ensures.going c.into_parts-disk.ensures.disk c.into_parts-disk.ensures.objects c.bring_up.ensures.moves c.bring_up.ensures.gate s h) h.lawful))
 
 pub returns-in-Ok-clause-saved : goal.returns-in-Ok-clause-saved
 returns-in-Ok-clause-saved g c tells =
