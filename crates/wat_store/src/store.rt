@@ -270,6 +270,20 @@ impl<D: Disk> Store<D> {
         }
     }
 
+    /// The refusal that it has answered, if any.
+    pub fn refusal(&self) -> Option<StoreRefusal>
+        ensures { result ≡ refusal_of self.now }
+    {
+        self.refused
+    }
+
+    /// How many connections have changes.
+    pub fn open_count(&self) -> usize
+        ensures { result ≡ length (undo_in self.now) }
+    {
+        self.objects.open_count()
+    }
+
     /// Makes room for a commit, so that it takes no memory. The store goes on also where no memory is left.
     pub fn reserve(&mut self) -> Result<(), NoMemory>
         ensures room { OnOk result (1 ≤ room_of self.new) }
