@@ -30,9 +30,9 @@ use Rattle.wat_steps.specs.Statements.{answer_saying, next_number, altered}
 use Rattle.wat_tied.specs.Tied.{AreStanding, parts_in, stood_in, made_in, standing_in, GoesWith, IsIdle, IsInside, IsAbsent, MeetsWith, Ghost, Ties, IsTied}
 use Rattle.wat_tied.specs.Told.{stands_told, commits_told, IsTold, IsHistoryTold}
 use Rattle.wat_tied.proofs.Alike.{alike}
-use Rattle.wat_tied.proofs.Schemes.{IsMade, opens_none, made_commits, made_done}
-use Rattle.wat_tied.proofs.Telling.{commits_next, told_idles, none_open, history_goes_on}
-use Rattle.wat_tied.proofs.Renewed.{has_work}
+use Rattle.wat_tied.proofs.Schemes.{IsMade, opens_none, made_commits, made_done, made_plain_told}
+use Rattle.wat_tied.proofs.Telling.{IsContinued, AddsPlain, told_next, plain_goes_on, commits_next, told_idles, none_open, history_goes_on}
+use Rattle.wat_tied.proofs.Renewed.{catalog_now, has_work}
 use Rattle.wat_tied.proofs.Answered.{done, done_here, done_there, part_of}
 
 says_it : (number : ℕ) (r other : Meant) → says (answer_saying number r) ≡ Some other → r ≡ other
@@ -146,9 +146,9 @@ module _ (e : CoreState) (g : Ghost) (ties : Ties e g) (c : ℕ) (going : e.stop
       (subst (λ z. IsTold (e.connections d) (parts_in z)) (subst (IsIdle (s.conns d) (g.entries d) (g.work d)) (closed d) (ties.idle d)).1 (ties.told d)))
       (cases_eq d c)
 
-  told_history : IsHistoryTold after (g.history ++ commit ∷ [])
-  told_history = history_goes_on e after c refl (λ d ne. done_there c d mid answer acts ne) g.history (g.history ++ commit ∷ [])
-      (inr (
+  goes_on : IsContinued e after c (commits_told (e.connections c)) (commits_told (after.connections c)) g.history (g.history ++ commit ∷ [])
+  goes_on =
+      inr (
         commit,
         moment,
         ap commits_told here_is ∙ (commits_next (e.connections c) k span answer acts refl refl ∙ ap (λ z. commits_told (e.connections c) ++ z) (made_commits number (meaning e.now written).answer made (stands_told (e.connections c)) part)),
@@ -156,8 +156,10 @@ module _ (e : CoreState) (g : Ghost) (ties : Ties e g) (c : ℕ) (going : e.stop
         refl,
         refl,
         λ out. has_work e g ties c span more first (λ i. out (i.from_one, i.within)),
-      ))
-      ties.history
+      )
+
+  told_history : IsHistoryTold after (g.history ++ commit ∷ [])
+  told_history = history_goes_on e after c refl (λ d ne. done_there c d mid answer acts ne) g.history (g.history ++ commit ∷ []) goes_on ties.history
 
   pub altered_tied : IsTied after
   altered_tied = record {
@@ -182,6 +184,9 @@ module _ (e : CoreState) (g : Ghost) (ties : Ties e g) (c : ℕ) (going : e.stop
       serial = serial;
       told = told_each;
       history = told_history;
+      plain = plain_goes_on e after c (schema_of e) g.history (g.history ++ commit ∷ []) refl (λ d ne. done_there c d mid answer acts ne) (catalog_now e g ties)
+          (subst (AddsPlain (schema_of e) (e.connections c)) (sym here_is) (inr (part, told_next (e.connections c) k span answer acts refl refl, λ low. made_plain_told number (meaning e.now written).answer made (schema_of e) part)))
+          goes_on ties.plain;
       outside = λ d out. absent_then d (λ i. out (record { from_one = i.from_one; within = i.within }));
       works = λ on d. subst (λ (z : Option Run). GoesWith (catalog_of t) (after.connections d) z []) (sym (rests_then d)) refl;
       meets = λ on d. subst (MeetsWith then_law d) (sym (rests_then d)) tt;

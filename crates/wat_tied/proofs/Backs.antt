@@ -39,7 +39,7 @@ use Rattle.wat_tied.proofs.Entered.{no_work}
 use Rattle.wat_tied.proofs.Granted.{there}
 use Rattle.wat_tied.proofs.Keys as keys
 use Rattle.wat_tied.proofs.Renewed.{rows_stay, renewed, renewal, has_work}
-use Rattle.wat_tied.proofs.Telling.{no_commit, told_joins}
+use Rattle.wat_tied.proofs.Telling.{told_next, no_commit, told_joins}
 use Rattle.wat_tied.proofs.Undone.{undo_items, IsUndone, undo_all}
 
 abbrev back_act : Change → Act
@@ -150,6 +150,8 @@ module _ (e : CoreState) (g : Ghost) (ties : Ties e g) (c : ℕ) (going : e.stop
           parts = λ p m. ⊎_elim (λ (h : recorded ≡ p). subst (IsDetermined cat) h (determined (λ ch has. all.formed ch (has_left ch gone (reverse (take n standing)) has)))) (λ (h : Has p (g.entries c)). ties.parts c p h) m;
           serial = subst (λ (z : CoreState). Serial 3 z.base g.history z.committed) b.others_same ties.serial;
           told = told_joins (e.connections c) k span answer acts refl refl more first (parts_in (g.entries c)) (ties.told c) refl written read refl refl (inl opening) refl;
+          based = sym (ap (λ (z : CoreState). z.base) b.others_same);
+          adds = inr (recorded.part, told_next (e.connections c) k span answer acts refl refl, λ low. tt);
           commits = inl (no_commit (e.connections c) k span answer acts refl refl (λ d p. refl), refl, sym (ap (λ (z : CoreState). z.moments) b.others_same));
         });
       }

@@ -11,7 +11,9 @@ use Rattle.wat_isolation.proofs.Whole.{all_hold}
 use Rattle.wat_scans.specs.Look.{look, IsOf}
 use Rattle.wat_steps.specs.Fresh.{connection_with, script_of, fresh}
 use Rattle.wat_parse.specs.declared.script.Span.{Span}
-use Rattle.wat_tied.specs.Told.{commits_told, IsTold}
+use Rattle.wat_tied.specs.Told.{parts_told, commits_told, IsTold}
+use Rattle.wat_list.specs.Has.{Has}
+use Rattle.wat_history.specs.Connection.{Part}
 use Rattle.wat_tied.specs.Tied.{AreStanding, standing_in, IsIdle, GoesWith, IsInside, IsAbsent, MeetsWith, IsTied}
 
 -- of a connection with nothing done
@@ -37,6 +39,10 @@ told_first None = record { goes = λ s m e. absurd (none_left s m e); open_parts
     none_left : (s : Span) (m : List Span) → [] ≡ s ∷ m → ⊥
     none_left s m e = cc
 told_first (Some script) = record { goes = λ s m e. refl; open_parts = λ e. refl; opens = λ e w. refl }
+
+no_part : (p : Part) (o : Option (List ℕ)) → Has p (parts_told (connection_with o)) → ⊥
+no_part p None m = m
+no_part p (Some script) m = m
 
 none_told : (scripts : List (List ℕ)) (k n : ℕ) → flat_map (λ c. commits_told (connection_with (script_of scripts c))) (range_with_len k n) ≡ []
 none_told scripts k zero = refl
@@ -72,6 +78,7 @@ begins base scripts tables = record {
     parts = λ c p has. absurd has;
     serial = refl;
     told = λ c. told_first (script_of scripts c);
+    plain = λ c p m. absurd (no_part p (script_of scripts c) m);
     history = record { all = subst (λ z. IsPermutation z []) (sym (none_told scripts 1 (length scripts))) (IsPermutation-refl []); numbers = refl; moments = refl };
     outside = λ c out. nothing base scripts c out;
     works = λ going c. goes base (script_of scripts c);

@@ -1,5 +1,5 @@
 -- The core stays tied where a transaction is opened, and where a statement that is checked is begun.
-use Rattle.std.proofs.Common.{◌≡◌, ℕ, Bool, true, false, ◌==◌, if◌then◌else◌, List, [], ◌∷◌, Option, Some, None, Ok, refl, sym, ap, ◌∙◌, subst, unwrap_or}
+use Rattle.std.proofs.Common.{◌≡◌, ℕ, Bool, true, false, ◌==◌, if◌then◌else◌, List, [], ◌∷◌, Option, Some, None, Ok, refl, sym, ap, ◌∙◌, subst, inl, unwrap_or}
 use Rattle.std.proofs.lemmas.Bool.{eq-eqb}
 use Rattle.wat_ast.specs.declared.statement.Statement.{Statement}
 use Rattle.wat_parse.specs.declared.script.Span.{Span}
@@ -89,6 +89,7 @@ begun_here e g c ties free span more first written read x checked stepped =
       meets = λ going. begun_meets (schema_of e) g.state c k.level x (task_planned (schema_of e) x ties.schema);
       told = let t = ties.told c in record { goes = t.goes; open_parts = t.open_parts; opens = λ e w. absurd (no run w) };
       commits = refl;
+      adds = inl refl;
     })
   where
     no : (run : Run) → ◌≡◌ {A = Option Run} (Some run) None → ⊥

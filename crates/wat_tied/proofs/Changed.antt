@@ -155,6 +155,8 @@ module _ (e : CoreState) (g : Ghost) (ties : Ties e g) (c : ℕ) (run : Run) (un
     serial = ties.serial;
     told = told_working (e.connections c) later (parts_in (g.entries c)) (ties.told c);
     commits = inl (refl, refl, refl);
+    based = refl;
+    adds = inl refl;
   })
 
 pub change_tied : (e after : CoreState) (c : ℕ) (run : Run) → IsTied e → e.stop ≡ None → (e.connections c).work ≡ Some run

@@ -23,7 +23,7 @@ use Rattle.wat_history.proofs.SerialLemmas.{grows}
 use Rattle.wat_scans.specs.Look.{IsOf}
 use Rattle.wat_scans.specs.Running.{Run}
 use Rattle.wat_steps.specs.State.{OpenTransaction, ConnectionState, CoreState, schema_of}
-use Rattle.wat_steps.specs.Answering.{IsSame, ended}
+use Rattle.wat_steps.specs.Answering.{IsSame, entry_at, ended}
 use Rattle.wat_steps.specs.Statements.{committed, next_number}
 use Rattle.wat_tied.specs.Tied.{Relates, items_in, parts_in, stood_in, made_in, standing_in, GoesWith, Ghost, Ties, IsTied}
 use Rattle.wat_tied.proofs.Alike.{alike}
@@ -34,7 +34,7 @@ use Rattle.wat_tied.proofs.Granted.{there}
 use Rattle.wat_tied.proofs.Renewed.{renewed, renewal, has_work}
 use Rattle.wat_tied.proofs.Same.{same_ties}
 use Rattle.wat_tied.proofs.Serially.{follows}
-use Rattle.wat_tied.proofs.Telling.{commits_next, told_over}
+use Rattle.wat_tied.proofs.Telling.{told_next, commits_next, told_over}
 use Rattle.wat_tied.specs.Told.{commits_told}
 
 module _ (e : CoreState) (g : Ghost) (ties : Ties e g) (c : ℕ) (going : e.stop ≡ None) (resting : (e.connections c).work ≡ None) (o : OpenTransaction) (opened : (e.connections c).transaction ≡ Some o)
@@ -111,6 +111,8 @@ module _ (e : CoreState) (g : Ghost) (ties : Ties e g) (c : ℕ) (going : e.stop
     meets = λ on. tt;
     parts = λ p m. absurd m;
     told = told_over (e.connections c) k span answer [] refl refl more first (parts_in (g.entries c)) (ties.told c) refl written read refl refl refl;
+    based = refl;
+    adds = inr (record { read = parsed_at (e.connections c).script span; entry = entry_at span (e.connections c).level answer [] }, told_next (e.connections c) k span answer [] refl refl, λ low. tt);
     commits = inr (
       commit,
       moment,

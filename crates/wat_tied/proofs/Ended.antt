@@ -1,5 +1,5 @@
 -- Each end of a transaction but COMMIT leaves the core tied: all that stands is undone, and the transaction is gone.
-use Rattle.std.proofs.Common.{◌≡◌, ℕ, is_some, true, false, List, [], ◌∷◌, ◌++◌, map, reverse, Option, Some, None, Ok, nat_eq, refl, sym, ap, ◌∙◌, subst, inl}
+use Rattle.std.proofs.Common.{◌≡◌, ℕ, is_some, true, false, List, [], ◌∷◌, ◌++◌, map, reverse, Option, Some, None, Ok, nat_eq, refl, sym, ap, ◌∙◌, subst, inl, inr}
 use Rattle.std.specs.List.{fold}
 use Rattle.std.proofs.lemmas.Bool.{both_ways}
 use Rattle.std.proofs.lemmas.List.{append-nil, reverse-append, map-append}
@@ -20,7 +20,7 @@ use Rattle.wat_history.specs.Serial.{Serial}
 use Rattle.wat_scans.specs.Running.{Run}
 use Rattle.wat_steps.specs.State.{OpenTransaction, ConnectionState, CoreState, schema_of, with_connection}
 use Rattle.wat_steps.specs.Changing.{made, undone}
-use Rattle.wat_steps.specs.Answering.{IsSame, answered, ended, rolled_back, rolled_back_from}
+use Rattle.wat_steps.specs.Answering.{IsSame, entry_at, answered, ended, rolled_back, rolled_back_from}
 use Rattle.wat_steps.specs.Asking.{broken_off}
 use Rattle.wat_steps.specs.Step.{closed}
 use Rattle.wat_tied.specs.Tied.{Relates, AreStanding, parts_in, stood_in, made_in, standing_in, IsGoing, GoesWith, IsIdle, IsInside, MeetsWith, Ghost, Ties, IsTied}
@@ -31,8 +31,8 @@ use Rattle.wat_tied.proofs.Ending.{left_with, freed, freed_relates}
 use Rattle.wat_tied.proofs.Granted.{there, working}
 use Rattle.wat_tied.proofs.Refused.{same_tied}
 use Rattle.wat_tied.proofs.Renewed.{rows_stay, renewed, renewal, has_work}
-use Rattle.wat_tied.specs.Told.{commits_told, IsTold}
-use Rattle.wat_tied.proofs.Telling.{no_commit, told_over, told_ended}
+use Rattle.wat_tied.specs.Told.{parts_told, commits_told, IsTold}
+use Rattle.wat_tied.proofs.Telling.{AddsPlain, told_next, no_commit, told_over, told_ended}
 use Rattle.wat_tied.proofs.Undone.{IsUndone, undo_all}
 
 -- the core after the end: all but the connection is as it was after the undoing, less its locks and vacant keys
@@ -51,6 +51,7 @@ pub record IsEnd (e u after : CoreState) (c : ℕ) (k : ConnectionState) : Type 
   pub told : IsTold k []
   pub commits : commits_told k ≡ commits_told (e.connections c)
   pub moments : after.moments ≡ u.moments
+  pub adds : AddsPlain (schema_of e) (e.connections c) k
   pub relates : (t : law.State sql) → Relates (freed c u.committed u) t → Relates after t
 
 pub end_tied : (e : CoreState) (g : Ghost) → Ties e g → (c : ℕ) (u : CoreState) (k : ConnectionState) (after : CoreState) → IsEnd e u after c k → IsTied after
@@ -90,6 +91,8 @@ end_tied e g ties c u k after end = finish r.0 (subst (λ (z : CoreState). IsUnd
             meets = λ going. subst (MeetsWith gone c) (sym end.no_work) tt;
             parts = λ p m. absurd m;
             told = end.told;
+            based = end.base ∙ sym (ap (λ (z : CoreState). z.base) b.others_same);
+            adds = end.adds;
             commits = inl (end.commits, refl, end.moments ∙ sym (ap (λ (z : CoreState). z.moments) b.others_same));
             serial = subst (λ z. Serial 3 z g.history after.committed) (sym (end.base ∙ sym (ap (λ (z : CoreState). z.base) b.others_same)))
                 (subst (Serial 3 e.base g.history) (sym (end.committed ∙ sym (ap (λ (z : CoreState). z.committed) b.others_same))) ties.serial);
@@ -135,6 +138,7 @@ deadlock_tied e after c run tied going under cycle same =
       told = told_over (e.connections c) k was.span (Deadlock cycle) [] refl refl was.more was.first (parts_in (g.entries c)) (tied.ties.told c) refl was.written was.read refl refl refl;
       commits = no_commit (e.connections c) k was.span (Deadlock cycle) [] refl refl (λ d p. refl);
       moments = refl;
+      adds = inr (record { read = parsed_at (e.connections c).script was.span; entry = entry_at was.span (e.connections c).level (Deadlock cycle) [] }, told_next (e.connections c) k was.span (Deadlock cycle) [] refl refl, λ low. tt);
       relates = λ t r. answered_relates c (ended c u) t (Deadlock cycle) [] (ends_relate c u (record (u.connections c) { transaction = None }) t r);
     }))) same
   where
@@ -208,6 +212,7 @@ module _ (e : CoreState) (g : Ghost) (ties : Ties e g) (c : ℕ) (resting : (e.c
     told = told_over (e.connections c) (done span more with_none answer []) span answer [] refl refl more first (parts_in (g.entries c)) (ties.told c) refl written read refl refl refl;
     commits = no_commit (e.connections c) (done span more with_none answer []) span answer [] refl refl (λ d p. refl);
     moments = refl;
+    adds = inr (record { read = parsed_at (e.connections c).script span; entry = entry_at span (e.connections c).level answer [] }, told_next (e.connections c) (done span more with_none answer []) span answer [] refl refl, λ low. tt);
     relates = λ t r. answered_relates c (ended c u) t answer [] (ends_relate c u (record (u.connections c) { transaction = None }) t r);
   }))
 
@@ -227,5 +232,6 @@ module _ (e : CoreState) (g : Ghost) (ties : Ties e g) (c : ℕ) (resting : (e.c
     told = told_ended ((ended c u).connections c) [] (ap (λ (z : ConnectionState). z.left) at_c ∙ none_left);
     commits = ap (λ (z : ConnectionState). commits_told (record z { has_ended = true })) at_c;
     moments = refl;
+    adds = inl (ap (λ (z : ConnectionState). parts_told (record z { has_ended = true })) at_c);
     relates = λ t r. record { scheme = r.scheme; now = r.now; base = r.base; locks = r.locks; vacant = r.vacant };
   }))

@@ -26,6 +26,7 @@ use Rattle.wat_tied.specs.Tied.{Relates, AreStanding, RecordedPart, IsDetermined
 use Rattle.wat_tied.specs.Told.{commits_told, IsTold}
 use Rattle.wat_tied.proofs.Answered.{done, done_here, done_there, answered_relates, part_of}
 use Rattle.wat_tied.proofs.Granted.{not_idle}
+use Rattle.wat_tied.proofs.Telling.{AddsPlain}
 use Rattle.wat_tied.proofs.Renewed.{renewed, renewal}
 
 -- the same core but for this connection
@@ -49,7 +50,7 @@ module _ (e : CoreState) (g : Ghost) (ties : Ties e g) (c : ℕ) (going : e.stop
     (mid : CoreState) (before : ConnectionState) (but : IsBut e mid c before) (t : OpenTransaction) (opened : before.transaction ≡ Some t) (stands : t.standing ≡ stood_in (e.connections c).transaction)
     (span : Span) (more : List Span) (first : before.left ≡ span ∷ more) (present : (IsInside e c → ⊥) → ⊥) (answer : Answer)
     (means : (f : RowName → Option Row) (tables : Tables) → IsOf (schema_of e) f tables → Means 3 tables (part_of before span answer []))
-    (told : IsTold (done span more before answer []) (parts_in (g.entries c) ++ part_of before span answer [] ∷ [])) (commits : commits_told (done span more before answer []) ≡ commits_told (e.connections c)) where
+    (told : IsTold (done span more before answer []) (parts_in (g.entries c) ++ part_of before span answer [] ∷ [])) (commits : commits_told (done span more before answer []) ≡ commits_told (e.connections c)) (adds : AddsPlain (schema_of e) (e.connections c) (done span more before answer [])) where
   abbrev k : ConnectionState
   k = done span more before answer []
 
@@ -88,6 +89,8 @@ module _ (e : CoreState) (g : Ghost) (ties : Ties e g) (c : ℕ) (going : e.stop
       parts = λ p m. ⊎_elim (λ (h : recorded ≡ p). subst (IsDetermined (schema_of e)) h determined) (λ (h : Has p (g.entries c)). ties.parts c p h) m;
       serial = subst (λ (z : CoreState). Serial 3 z.base g.history z.committed) but.rest ties.serial;
       told = told;
+      based = sym (ap (λ (z : CoreState). z.base) but.rest);
+      adds = adds;
       commits = inl (commits, refl, sym (ap (λ (z : CoreState). z.moments) but.rest));
     });
   }

@@ -16,6 +16,7 @@ use Rattle.wat_steps.specs.Answering.{entry_at, with_answer, without_short, answ
 use Rattle.wat_tied.specs.Told.{commits_told, IsTold}
 use Rattle.wat_tied.specs.Tied.{AreStanding, parts_in, standing_in, GoesWith, IsIdle, Ghost, Ties, IsTied}
 use Rattle.wat_tied.proofs.Renewed.{has_work}
+use Rattle.wat_tied.proofs.Telling.{AddsPlain}
 use Rattle.wat_tied.proofs.Updated.{with_tied}
 
 neither : (b : Bool) → not (b && false) ≡ true
@@ -37,6 +38,7 @@ with_fewer e c g ties = record {
   parts = ties.parts;
   serial = ties.serial;
   told = ties.told;
+  plain = ties.plain;
   history = record { all = ties.history.all; numbers = ties.history.numbers; moments = ties.history.moments };
   outside = λ c out. ties.outside c (λ i. out (record { from_one = i.from_one; within = i.within }));
   works = ties.works;
@@ -53,8 +55,8 @@ same_transaction (span ∷ more) k answer = refl
 
 -- What is recorded stays, where the entry joins no transaction and commits nothing.
 pub quiet_tied : (e : CoreState) (c : ℕ) (answer : Answer) → (tied : IsTied e) → e.stop ≡ None → (e.connections c).work ≡ None → (span : Span) (more : List Span) → (e.connections c).left ≡ span ∷ more
-    → IsTold (done span more (e.connections c) answer []) (parts_in (tied.ghost.entries c)) → commits_told (done span more (e.connections c) answer []) ≡ commits_told (e.connections c) → IsTied (answered c e answer [])
-quiet_tied e c answer tied going free span more first told commits =
+    → IsTold (done span more (e.connections c) answer []) (parts_in (tied.ghost.entries c)) → commits_told (done span more (e.connections c) answer []) ≡ commits_told (e.connections c) → AddsPlain (schema_of e) (e.connections c) (done span more (e.connections c) answer []) → IsTied (answered c e answer [])
+quiet_tied e c answer tied going free span more first told commits adds =
     let g : Ghost = tied.ghost in
     let old : ConnectionState = e.connections c in
     let k : ConnectionState = record (with_answer old.left old answer []) { work = None; request = None } in
@@ -73,5 +75,6 @@ quiet_tied e c answer tied going free span more first told commits =
             meets = λ on. tt;
             told = subst (λ (z : ConnectionState). IsTold z (parts_in (g.entries c))) (sym is) told;
             commits = ap commits_told is ∙ commits;
+            adds = subst (AddsPlain (schema_of e) old) (sym is) adds;
           }));
     }

@@ -58,7 +58,7 @@ refuse_tied e after c run tied going under x coming same =
     let g : Ghost = tied.ghost in
     let was : IsGoing (schema_of e) (e.connections c) run (g.work c) = working e tied c run going under in
     same_tied (refused c e run (Refused x)) after
-    (refused_tied e g tied.ties c run under was e.held g.state [] tied.ties.relates tied.ties.kept refl refl (λ d ne. refl) refl (λ f. refl) (Refused x) (record { done = refl; lasts = refl; commits_none = λ d p. refl })
+    (refused_tied e g tied.ties c run under was e.held g.state [] tied.ties.relates tied.ties.kept refl refl (λ d ne. refl) refl (λ f. refl) (Refused x) (record { done = refl; lasts = refl; commits_none = λ d p. refl; tells = λ d p. tt })
     (λ f t r h says_r is alone.
     let one : meant_reply.Refused x ≡ r = cc in
     (said (schema_of e) was.statement was.stepped (was.written, was.checked) run was.visits was.going f t is alone).refuses x coming ∙ λ j. record { answer = one j; acts = [] }))
@@ -71,7 +71,7 @@ locked_tied e after c run tied going under against same =
     let g : Ghost = tied.ghost in
     let was : IsGoing (schema_of e) (e.connections c) run (g.work c) = working e tied c run going under in
     same_tied (refused c e run (Locked against)) after
-    (refused_tied e g tied.ties c run under was e.held g.state [] tied.ties.relates tied.ties.kept refl refl (λ d ne. refl) refl (λ f. refl) (Locked against) (record { done = refl; lasts = refl; commits_none = λ d p. refl })
+    (refused_tied e g tied.ties c run under was e.held g.state [] tied.ties.relates tied.ties.kept refl refl (λ d ne. refl) refl (λ f. refl) (Locked against) (record { done = refl; lasts = refl; commits_none = λ d p. refl; tells = λ d p. tt })
     (λ f t r h says_r is alone. absurd (let no : ◌≡◌ {A = Option Meant} None (Some r) = says_r in cc)))
     same
 
@@ -117,10 +117,10 @@ module _ (e : CoreState) (g : Ghost) (ties : Ties e g) (c : ℕ) (run : Run) (un
           let o = visit_read e g.state ties.relates ties.kept c run.task.plan (writes_rows run.task.statement) scan ts fewer (long_stay g.state c (length ts) e.held ties.relates.locks)
           (listing e g ties c run under was scan ts met coming seen sees) seen sees (subst (AreFree e.held c) same free) in
           let v : IsReadIn e g.state o.0 c (visit_item run scan seen) wants (fewer ++ map (entry c) wants) = subst (λ (w : List Want). IsReadIn e g.state o.0 c (visit_item run scan seen) w (fewer ++ map (entry c) w)) (sym same) o.1 in
-          refused_tied e g ties c run under was (fewer ++ map (entry c) wants) o.0 (visit_item run scan seen ∷ []) v.relates v.kept v.log v.standing v.others v.base (λ f. refl) (Refused Arithmetic) (record { done = refl; lasts = refl; commits_none = λ d p. refl }) (λ f t a h says_a is alone. told f t a says_a is alone)
+          refused_tied e g ties c run under was (fewer ++ map (entry c) wants) o.0 (visit_item run scan seen ∷ []) v.relates v.kept v.log v.standing v.others v.base (λ f. refl) (Refused Arithmetic) (record { done = refl; lasts = refl; commits_none = λ d p. refl; tells = λ d p. tt }) (λ f t a h says_a is alone. told f t a says_a is alone)
       by false low =
           let v = peeked e g.state ties.relates ties.kept c fewer wants free (long_stay g.state c (length ts) e.held ties.relates.locks) r in
-          refused_tied e g ties c run under was (fewer ++ map (entry c) wants) (law.happens sql g.state (law.Event.Peek c r (long_locks wants))) (Peeked r (g.state.now r) ∷ []) v.relates v.kept v.log v.standing v.others v.base (λ f. refl) (Refused Arithmetic) (record { done = refl; lasts = refl; commits_none = λ d p. refl })
+          refused_tied e g ties c run under was (fewer ++ map (entry c) wants) (law.happens sql g.state (law.Event.Peek c r (long_locks wants))) (Peeked r (g.state.now r) ∷ []) v.relates v.kept v.log v.standing v.others v.base (λ f. refl) (Refused Arithmetic) (record { done = refl; lasts = refl; commits_none = λ d p. refl; tells = λ d p. tt })
           (λ f t a h says_a is alone. absurd (both_ways (nat_le 3 run.level) low h))
 
 pub failed_tied : (e after : CoreState) (c : ℕ) (run : Run) → IsTied e → e.stop ≡ None → (e.connections c).work ≡ Some run
@@ -142,7 +142,7 @@ pub duplicate_tied : (e after : CoreState) (c : ℕ) (run : Run) → IsTied e �
     → (other : Row) → standing_row e l ch ≡ Some other → AreFree e.held c (change_wants l.def ch []) → IsSame (duplicate c e run l ch) after → IsTied after
 duplicate_tied e after c run tied going under ch coming l listing other stands free same =
     same_tied (duplicate c e run l ch) after
-    (refused_tied e g tied.ties c run under was (e.held ++ map (entry c) wants) (law.happens sql g.state (law.Event.Look c r (long_locks wants))) (Looked r (g.state.now r) ∷ []) v.relates v.kept v.log v.standing v.others v.base (λ f. refl) (Refused (Duplicate (changed_row l.def ch).key)) (record { done = refl; lasts = refl; commits_none = λ d p. refl }) told)
+    (refused_tied e g tied.ties c run under was (e.held ++ map (entry c) wants) (law.happens sql g.state (law.Event.Look c r (long_locks wants))) (Looked r (g.state.now r) ∷ []) v.relates v.kept v.log v.standing v.others v.base (λ f. refl) (Refused (Duplicate (changed_row l.def ch).key)) (record { done = refl; lasts = refl; commits_none = λ d p. refl; tells = λ d p. tt }) told)
     same
   where
     g : Ghost

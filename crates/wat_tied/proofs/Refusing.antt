@@ -1,5 +1,5 @@
 -- A statement that is refused, or answered Locked, leaves the core tied: what it changed is undone.
-use Rattle.std.proofs.Common.{◌≡◌, ℕ, nat_le, true, List, [], ◌∷◌, ◌++◌, reverse, Option, Some, refl, sym, ap, ◌∙◌, subst, inl, ⊎_elim}
+use Rattle.std.proofs.Common.{◌≡◌, ℕ, nat_le, true, List, [], ◌∷◌, ◌++◌, reverse, Option, Some, refl, sym, ap, ◌∙◌, subst, inl, inr, ⊎_elim}
 use Rattle.std.proofs.lemmas.List.{reverse-append, append-nil, append_assoc}
 use Rattle.wat_list.specs.Has.{Has}
 use Rattle.wat_value.specs.declared.change.Change.{Change}
@@ -27,7 +27,7 @@ use Rattle.wat_tied.proofs.Answered.{done, done_here, done_there, answered_relat
 use Rattle.wat_tied.proofs.Granted.{not_idle}
 use Rattle.wat_tied.proofs.Recorded.{view_of_reads, did_items, did_is, undone_view}
 use Rattle.wat_tied.proofs.Renewed.{rows_stay, renewed, renewal, has_work}
-use Rattle.wat_tied.proofs.Telling.{IsPlainAnswer, no_commit, told_joins}
+use Rattle.wat_tied.proofs.Telling.{IsPlainAnswer, told_next, no_commit, told_joins}
 use Rattle.wat_tied.proofs.Undone.{undo_items, IsUndone, undo_all}
 
 -- The statement is refused in a step in which its connection got other locks, and in which what is in `extra` was read.
@@ -116,6 +116,8 @@ module _ (e : CoreState) (g : Ghost) (ties : Ties e g) (c : ℕ) (run : Run) (un
           serial = subst (λ (z : CoreState). Serial 3 z.base g.history z.committed) b.others_same ties.serial;
           told = told_joins (e.connections c) k was.span answer [] refl refl was.more was.first (parts_in (g.entries c)) (ties.told c) refl was.written was.read plain.done plain.lasts
               (inl (opens_written cat was.written was.statement was.checked was.stepped)) was.has_transaction;
+          based = sym (ap (λ (z : CoreState). z.base) b.others_same);
+          adds = inr (recorded.part, told_next (e.connections c) k was.span answer [] refl refl, λ low. plain.tells cat recorded.part);
           commits = inl (no_commit (e.connections c) k was.span answer [] refl refl plain.commits_none, refl, sym (ap (λ (z : CoreState). z.moments) b.others_same));
         });
       }

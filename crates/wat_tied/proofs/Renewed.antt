@@ -1,9 +1,10 @@
 -- The core stays tied where what is known of the connection that made a step is known again: all other connections are as before.
-use Rattle.std.proofs.Common.{◌≡◌, ℕ, ◌≤◌, List, [], ◌∷◌, ◌++◌, None, nat_eq, sym, ap, ◌∙◌, subst, ⊎_elim}
+use Rattle.std.proofs.Common.{◌≡◌, ℕ, ◌≤◌, List, [], ◌∷◌, ◌++◌, length, None, nat_eq, sym, ap, ◌∙◌, subst, ⊎_elim}
 use Rattle.std.proofs.lemmas.Bool.{cases_eq}
 use Rattle.wat_list.specs.Has.{Has}
 use Rattle.wat_value.specs.Changes.{RowName}
 use Rattle.wat_schema.specs.Catalog.{Catalog}
+use Rattle.wat_schema.specs.Tables.{catalog_of}
 use Rattle.wat_schema.specs.Stored.{IsCatalog}
 use Rattle.wat_isolation.specs.World.{put}
 use Rattle.wat_isolation.specs.Logs.{Item, view}
@@ -13,12 +14,13 @@ use Rattle.wat_isolation.specs.Sql.{sql}
 use Rattle.wat_isolation.proofs.Basics.{nat_same, put-same, put-other}
 use Rattle.wat_parse.specs.declared.script.Span.{Span}
 use Rattle.wat_history.specs.History.{Commit}
-use Rattle.wat_history.specs.Serial.{Serial}
+use Rattle.wat_history.specs.Serial.{Serial, after as after_first}
+use Rattle.wat_history.proofs.SerialLemmas.{after_all}
 use Rattle.wat_steps.specs.State.{ConnectionState, CoreState, schema_of}
 use Rattle.wat_tied.specs.Tied.{Relates, AreStanding, RecordedPart, IsDetermined, Ghost, standing_in, items_in, parts_in, IsIdle, GoesWith, IsInside, IsAbsent, MeetsWith, Ties}
 use Rattle.wat_tied.specs.Told.{commits_told, IsTold}
 use Rattle.wat_tied.proofs.Aims.{meets_stay}
-use Rattle.wat_tied.proofs.Telling.{IsContinued, history_goes_on}
+use Rattle.wat_tied.proofs.Telling.{IsContinued, AddsPlain, history_goes_on, plain_goes_on}
 
 -- what is known of the connection that made the step, and of the whole
 pub record Renews (e after : CoreState) (g : Ghost) (c : ℕ) (t : law.State sql) (k : ConnectionState) (entries : List RecordedPart) (work : List (Item sql)) (history : List Commit) : Type 0 where
@@ -40,6 +42,8 @@ pub record Renews (e after : CoreState) (g : Ghost) (c : ℕ) (t : law.State sql
   pub parts : (p : RecordedPart) → Has p entries → IsDetermined (schema_of e) p
   pub serial : Serial 3 after.base history after.committed
   pub told : IsTold k (parts_in entries)
+  pub based : after.base ≡ e.base
+  pub adds : AddsPlain (schema_of e) (e.connections c) k
   pub commits : IsContinued e after c (commits_told (e.connections c)) (commits_told k) g.history history
 
 -- Where the commits are as before, the rows on which another connection holds Write are as it left them.
@@ -51,6 +55,10 @@ rows_stay s t before after base d same r h =
 -- what stands beside the core then
 abbrev pub renewal : Ghost → ℕ → law.State sql → List RecordedPart → List (Item sql) → List Commit → Ghost
 renewal g c t entries work history = record { state = t; entries = put nat_eq g.entries c entries; work = put nat_eq g.work c work; history = history }
+
+-- the schema now is that after all commits
+pub catalog_now : (e : CoreState) (g : Ghost) → Ties e g → catalog_of (after_first e.base g.history (length g.history)) ≡ schema_of e
+catalog_now e g ties = ap catalog_of (after_all 3 e.base e.committed g.history ties.serial) ∙ ties.relates.base.schema
 
 pub renewed : (e after : CoreState) (g : Ghost) → Ties e g → (c : ℕ) (t : law.State sql) (k : ConnectionState) (entries : List RecordedPart) (work : List (Item sql)) (history : List Commit) → Renews e after g c t k entries work history
     → Ties after (renewal g c t entries work history)
@@ -82,6 +90,9 @@ renewed e after g ties c t k entries work history r = record {
       (λ d ne. subst (λ (z : ConnectionState). IsTold z (parts_in (new.entries d))) (sym (r.there d ne)) (subst (λ z. IsTold (e.connections d) (parts_in z)) (sym (there_entries d ne)) (ties.told d)));
   history = history_goes_on e after c r.count r.there g.history history
       (subst (λ (z : ConnectionState). IsContinued e after c (commits_told (e.connections c)) (commits_told z) g.history history) (sym r.here) r.commits) ties.history;
+  plain = plain_goes_on e after c (schema_of e) g.history history r.based r.there (catalog_now e g ties)
+      (subst (λ (z : ConnectionState). AddsPlain (schema_of e) (e.connections c) z) (sym r.here) r.adds)
+      (subst (λ (z : ConnectionState). IsContinued e after c (commits_told (e.connections c)) (commits_told z) g.history history) (sym r.here) r.commits) ties.plain;
   outside = by_connection (λ d. (IsInside after d → ⊥) → IsAbsent (after.connections d))
       (λ out. subst IsAbsent (sym r.here) (r.outside (λ i. out (inside_then c i))))
       (λ d ne out. subst IsAbsent (sym (r.there d ne)) (ties.outside d (λ i. out (inside_then d i))));

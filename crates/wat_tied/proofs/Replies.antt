@@ -20,7 +20,7 @@ use Rattle.wat_meaning.specs.Meaning.{Made, Made.Shown, Made.Changing, Made.Alte
 use Rattle.wat_scans.specs.Running.{Task, Run, Next.ToReply, change_next, made_next, next, defs_of, rows_found, with_target, made_by}
 use Rattle.wat_scans.proofs.Going.{IsDone, done_reply}
 use Rattle.wat_steps.specs.Statements.{answer_saying}
-use Rattle.wat_tied.proofs.Telling.{IsPlainAnswer}
+use Rattle.wat_tied.proofs.Telling.{IsReplyAnswer}
 
 abbrev IsOnRows : Reply → Type 0
 IsOnRows (meant.Rows rows) = Unit {0}
@@ -101,7 +101,7 @@ reply_on run r h = by (made_by run.task d.at.met run.task.statement) d.is (made_
     by (Ok (Shown rows)) j k = let same : meant.Rows rows ≡ r = cc in subst IsOnRows same tt
     by (Ok (Changing reply changes)) j k = subst IsOnRows (last reply (drop (length run.made) changes) j) k
 
-says_plain : (r : Reply) → IsOnRows r → IsPlainAnswer (answer_saying 0 r)
+says_plain : (r : Reply) → IsOnRows r → IsReplyAnswer (answer_saying 0 r)
 says_plain (meant.Rows rows) h = record { done = refl; lasts = refl; commits_none = λ c p. refl }
 says_plain (meant.Inserted n) h = record { done = refl; lasts = refl; commits_none = λ c p. refl }
 says_plain (meant.Updated n) h = record { done = refl; lasts = refl; commits_none = λ c p. refl }
@@ -110,5 +110,5 @@ says_plain meant.Created h = absurd h
 says_plain meant.Dropped h = absurd h
 says_plain (meant.Refused x) h = record { done = refl; lasts = refl; commits_none = λ c p. refl }
 
-pub reply_plain : (run : Run) (r : Reply) → next run ≡ ToReply r → IsPlainAnswer (answer_saying 0 r)
+pub reply_plain : (run : Run) (r : Reply) → next run ≡ ToReply r → IsReplyAnswer (answer_saying 0 r)
 reply_plain run r h = says_plain r (reply_on run r h)

@@ -1,5 +1,5 @@
 -- A statement that is answered its reply leaves the core tied: its changes stand.
-use Rattle.std.proofs.Common.{◌≡◌, ℕ, true, false, is_some, unwrap_or, List, [], ◌∷◌, ◌++◌, map, reverse, Option, Some, None, refl, sym, ap, ◌∙◌, subst, inl, ⊎_elim}
+use Rattle.std.proofs.Common.{◌≡◌, ℕ, true, false, is_some, unwrap_or, List, [], ◌∷◌, ◌++◌, map, reverse, Option, Some, None, refl, sym, ap, ◌∙◌, subst, inl, inr, ⊎_elim}
 use Rattle.std.proofs.lemmas.Bool.{both_ways}
 use Rattle.std.proofs.lemmas.List.{append-nil}
 use Rattle.wat_list.specs.Has.{Has}
@@ -24,15 +24,16 @@ use Rattle.wat_steps.specs.State.{OpenTransaction, ConnectionState, CoreState, s
 use Rattle.wat_steps.specs.Answering.{IsSame, no_changes, with_transaction, transaction_of}
 use Rattle.wat_steps.specs.Statements.{answer_saying}
 use Rattle.wat_steps.specs.Step.{replied}
-use Rattle.wat_tied.specs.Tied.{AreStanding, RecordedPart, IsDetermined, parts_in, stood_in, standing_in, IsGoing, Ghost, Ties, IsTied}
+use Rattle.wat_tied.specs.Tied.{AreStanding, RecordedPart, IsDetermined, parts_in, stood_in, standing_in, IsGoing, MeetsWith, Ghost, Ties, IsTied}
 use Rattle.wat_tied.proofs.Answered.{done, done_here, done_there, answered_relates, part_of, opens_written, meant}
 use Rattle.wat_tied.proofs.Begun.{here}
 use Rattle.wat_tied.proofs.Granted.{there, working}
 use Rattle.wat_tied.proofs.Recorded.{view_of_reads, all_fit, reversed_has}
+use Rattle.wat_tied.proofs.Plainly.{reply_is_plain}
 use Rattle.wat_tied.proofs.Renewed.{renewed, renewal, has_work}
 use Rattle.wat_tied.proofs.Replies.{reply_plain}
 use Rattle.wat_tied.proofs.Same.{same_ties}
-use Rattle.wat_tied.proofs.Telling.{IsPlainAnswer, no_commit, told_joins}
+use Rattle.wat_tied.proofs.Telling.{IsReplyAnswer, told_next, no_commit, told_joins}
 
 -- the answer says the reply
 says_it : (r other : Meant) → says (answer_saying 0 r) ≡ Some other → r ≡ other
@@ -48,7 +49,7 @@ stands_open : (t : Option OpenTransaction) → is_some t ≡ true → (unwrap_or
 stands_open None h = absurd (both_ways false refl h)
 stands_open (Some t) h = refl
 
-module _ (e : CoreState) (g : Ghost) (ties : Ties e g) (c : ℕ) (run : Run) (under : (e.connections c).work ≡ Some run) (was : IsGoing (schema_of e) (e.connections c) run (g.work c)) (r : Meant) (coming : next run ≡ ToReply r) where
+module _ (e : CoreState) (g : Ghost) (ties : Ties e g) (c : ℕ) (run : Run) (under : (e.connections c).work ≡ Some run) (was : IsGoing (schema_of e) (e.connections c) run (g.work c)) (meets : MeetsWith g.state c (Some run)) (r : Meant) (coming : next run ≡ ToReply r) where
   abbrev cat : Catalog
   cat = schema_of e
 
@@ -73,7 +74,7 @@ module _ (e : CoreState) (g : Ghost) (ties : Ties e g) (c : ℕ) (run : Run) (un
   abbrev mid : CoreState
   mid = with_transaction c open_then e
 
-  plain : IsPlainAnswer answer
+  plain : IsReplyAnswer answer
   plain = reply_plain run r coming
 
   old : AreStanding cat (reverse (stood_in (e.connections c).transaction ++ run.made)) (g.state.conns c).standing
@@ -119,6 +120,8 @@ module _ (e : CoreState) (g : Ghost) (ties : Ties e g) (c : ℕ) (run : Run) (un
     serial = ties.serial;
     told = told_joins (e.connections c) k was.span answer acts refl refl was.more was.first (parts_in (g.entries c)) (ties.told c) refl was.written was.read plain.done plain.lasts
         (inl (opens_written cat was.written was.statement was.checked was.stepped)) refl;
+    based = refl;
+    adds = inr (recorded.part, told_next (e.connections c) k was.span answer acts refl refl, reply_is_plain e g ties c run was meets r coming 3);
     commits = inl (no_commit (e.connections c) k was.span answer acts refl refl plain.commits_none, refl, refl);
   })
 
@@ -127,4 +130,4 @@ reply_tied e after c run tied going under r coming same =
     let g : Ghost = tied.ghost in
     let was : IsGoing (schema_of e) (e.connections c) run (g.work c) = working e tied c run going under in
     let t : Ghost = renewal g c g.state (record { part = part_of (e.connections c) was.span (answer_saying 0 r) (map OnRow run.made); items = g.work c } ∷ g.entries c) [] g.history in
-    record { ghost = t; ties = same_ties (replied c e run r) after t same (reply_ties e g tied.ties c run under was r coming) }
+    record { ghost = t; ties = same_ties (replied c e run r) after t same (reply_ties e g tied.ties c run under was (subst (MeetsWith g.state c) under (tied.ties.meets going c)) r coming) }

@@ -41,6 +41,7 @@ reordered e g held vacant same_held same_vacant ties = record {
   parts = ties.parts;
   serial = ties.serial;
   told = ties.told;
+  plain = ties.plain;
   history = record { all = ties.history.all; numbers = ties.history.numbers; moments = ties.history.moments };
   outside = λ c out. ties.outside c (λ i. out (record { from_one = i.from_one; within = i.within }));
   works = ties.works;

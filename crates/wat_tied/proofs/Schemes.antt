@@ -1,5 +1,5 @@
 -- What a CREATE or DROP means: it is refused without acts, or it says that it is made.
-use Rattle.std.proofs.Common.{◌≡◌, ◌≢◌, ℕ, true, [], ◌∷◌, map, ◌⊎◌, Option, Some, None, refl, sym, ap, ◌∙◌, inl, inr}
+use Rattle.std.proofs.Common.{◌≡◌, ◌≢◌, ℕ, true, [], ◌∷◌, map, ◌⊎◌, Option, Some, None, refl, sym, ap, ◌∙◌, subst, inl, inr}
 use Rattle.std.specs.Prelude.{IsSomeAnd, option_to_list}
 use Rattle.wat_value.specs.declared.change.Act.TheVariants.{OnSchema}
 use Rattle.wat_value.specs.declared.change.SchemaChange.{SchemaChange}
@@ -18,6 +18,7 @@ use Rattle.wat_meaning.specs.declared.reply.Reply.{Reply}
 use Rattle.wat_meaning.specs.declared.reply.Reply.TheVariants as meant
 use Rattle.wat_meaning.specs.Meaning.{made, done, meaning_checked, after_check, meaning}
 use Rattle.wat_history.specs.Connection.{Part, Connection, opens}
+use Rattle.wat_history.specs.Plain.{IsPlainAnswer as IsPlainTold}
 use Rattle.wat_history.specs.History.{committed_by}
 use Rattle.wat_steps.specs.Statements.{answer_saying}
 
@@ -113,3 +114,7 @@ made_commits number r (inr e) c p = ap (λ z. committed_by c p (answer_saying nu
 pub made_done : (number : ℕ) (r : Reply) → IsMade r → Rattle.wat_history.specs.Connection.is_done (answer_saying number r) ≡ true
 made_done number r (inl e) = ap (λ z. Rattle.wat_history.specs.Connection.is_done (answer_saying number z)) e
 made_done number r (inr e) = ap (λ z. Rattle.wat_history.specs.Connection.is_done (answer_saying number z)) e
+
+pub made_plain_told : (number : ℕ) (r : Reply) → IsMade r → (cat : Catalog) (p : Part) → IsPlainTold cat p (answer_saying number r)
+made_plain_told number r (inl e) cat p = subst (λ z. IsPlainTold cat p (answer_saying number z)) (sym e) tt
+made_plain_told number r (inr e) cat p = subst (λ z. IsPlainTold cat p (answer_saying number z)) (sym e) tt

@@ -37,11 +37,12 @@ use Rattle.wat_tied.proofs.Quiet.{quiet_tied}
 use Rattle.wat_tied.proofs.Refused.{same_tied}
 use Rattle.wat_tied.proofs.Renewed.{has_work}
 use Rattle.wat_tied.proofs.Schemes.{IsMade, opens_none, schema_meant}
-use Rattle.wat_tied.proofs.Telling.{IsPlainAnswer, no_commit, told_joins, told_idles, told_stays, told_ended, none_open, unread_stays}
+use Rattle.wat_tied.proofs.Telling.{IsPlainAnswer, told_next, no_commit, told_joins, told_idles, told_stays, told_ended, none_open, unread_stays}
 use Rattle.wat_tied.proofs.Updated.{with_tied}
-use Rattle.wat_tied.specs.Told.{stands_told, commits_told, IsTold}
+use Rattle.wat_tied.specs.Told.{parts_told, stands_told, commits_told, IsTold}
 use Rattle.wat_history.specs.Connection.{Part, Connection, opens, is_done}
 use Rattle.wat_history.specs.History.{committed_by}
+use Rattle.wat_history.specs.Plain.{IsPlainAnswer as IsPlainTold}
 use Rattle.wat_rules.specs.Changes.{changes_schema}
 use Rattle.wat_meaning.specs.declared.reply.Reply.{Reply as Meant}
 use Rattle.wat_meaning.specs.declared.reply.Reply.TheVariants as meant
@@ -95,6 +96,7 @@ module _ (e after : CoreState) (c : ℕ) (tied : IsTied e) (going : e.stop ≡ N
           meets = λ on. tied.ties.meets on c;
           told = told_ended (e.connections c) (parts_in (tied.ghost.entries c)) none_left;
           commits = refl;
+          adds = inl refl;
           outside = λ out. let is = tied.ties.outside c out in record { no_transaction = is.no_transaction; none_left = is.none_left };
         });
       })
@@ -120,28 +122,31 @@ module _ (e after : CoreState) (c : ℕ) (tied : IsTied e) (going : e.stop ≡ N
     -- ---- an answer at once
 
     -- a text that is no statement
-    unread : (answer : Answer) (at : ℕ) → parsed_at (e.connections c).script span ≡ Err at → ((d : Connection) (p : Part) → committed_by d p answer ≡ []) → IsTied (answered c e answer [])
-    unread answer at failed none = quiet_tied e c answer tied going resting span more first_left
+    unread : (answer : Answer) (at : ℕ) → parsed_at (e.connections c).script span ≡ Err at → ((d : Connection) (p : Part) → committed_by d p answer ≡ []) → ((d : Catalog) (p : Part) → IsPlainTold d p answer) → IsTied (answered c e answer [])
+    unread answer at failed none tells = quiet_tied e c answer tied going resting span more first_left
         (told_stays (e.connections c) (done span more (e.connections c) answer []) span answer [] refl refl more first_left parts told refl (unread_stays (stands_told (e.connections c)) (part_of (e.connections c) span answer []) at failed) refl (λ w. resting))
         (no_commit (e.connections c) (done span more (e.connections c) answer []) span answer [] refl refl none)
+        (inr (part_of (e.connections c) span answer [], told_next (e.connections c) (done span more (e.connections c) answer []) span answer [] refl refl, λ low. tells (schema_of e) (part_of (e.connections c) span answer [])))
 
     module _ (written : Statement) (read : parsed_at (e.connections c).script span ≡ Ok written) where
       -- no transaction is open, and none is opened
-      quiet_none : (answer : Answer) → opens written ≡ false → is_done answer ≡ true → ((d : Connection) (p : Part) → committed_by d p answer ≡ []) → (e.connections c).transaction ≡ None → IsTied (answered c e answer [])
-      quiet_none answer opens_none is none at = quiet_tied e c answer tied going resting span more first_left
+      quiet_none : (answer : Answer) → opens written ≡ false → is_done answer ≡ true → ((d : Connection) (p : Part) → committed_by d p answer ≡ []) → ((d : Catalog) (p : Part) → IsPlainTold d p answer) → (e.connections c).transaction ≡ None → IsTied (answered c e answer [])
+      quiet_none answer opens_none is none tells at = quiet_tied e c answer tied going resting span more first_left
           (subst (λ z. IsTold (done span more (e.connections c) answer []) (parts_in z)) (sym (subst (IsIdle (tied.ghost.state.conns c) (tied.ghost.entries c) (tied.ghost.work c)) at (tied.ties.idle c)).1)
           (told_idles (e.connections c) (done span more (e.connections c) answer []) span answer [] refl refl more first_left parts told refl written read is opens_none (none_open (e.connections c) parts told running resting at) at))
           (no_commit (e.connections c) (done span more (e.connections c) answer []) span answer [] refl refl none)
+          (inr (part_of (e.connections c) span answer [], told_next (e.connections c) (done span more (e.connections c) answer []) span answer [] refl refl, λ low. tells (schema_of e) (part_of (e.connections c) span answer [])))
 
       quiet : (answer : Answer) → opens written ≡ false → IsPlainAnswer answer → ((f : RowName → Option Row) (t : Tables) → IsOf (schema_of e) f t → Means 3 t (part_of (e.connections c) span answer [])) → IsTied (answered c e answer [])
       quiet answer opens_none plain means = by (e.connections c).transaction refl
         where
           by : (t : Option OpenTransaction) → (e.connections c).transaction ≡ t → IsTied (answered c e answer [])
-          by None at = quiet_none answer opens_none plain.done plain.commits_none at
+          by None at = quiet_none answer opens_none plain.done plain.commits_none plain.tells at
           by (Some t) at = entered_tied e tied.ghost tied.ties c going resting e (e.connections c) (but_itself e c) t at (sym (ap stood_in at)) span more first_left present answer means
               (told_joins (e.connections c) (done span more (e.connections c) answer []) span answer [] refl refl more first_left parts told refl written read plain.done plain.lasts
               (inr (sym (told.opens running resting) ∙ ap is_some at)) (ap is_some at))
               (no_commit (e.connections c) (done span more (e.connections c) answer []) span answer [] refl refl plain.commits_none)
+              (inr (part_of (e.connections c) span answer [], told_next (e.connections c) (done span more (e.connections c) answer []) span answer [] refl refl, λ low. plain.tells (schema_of e) (part_of (e.connections c) span answer [])))
 
       said_nothing : (answer : Answer) → opens written ≡ false → IsPlainAnswer answer → says answer ≡ None → IsTied (answered c e answer [])
       said_nothing answer opens_none plain none = quiet answer opens_none plain (λ f t is. says_nothing (e.connections c) span answer none t)
@@ -156,6 +161,7 @@ module _ (e after : CoreState) (c : ℕ) (tied : IsTied e) (going : e.stop ≡ N
           span more first_left present answer means
           (told_joins (e.connections c) (done span more before answer []) span answer [] refl refl more first_left parts told refl written read plain.done plain.lasts (inl opening) refl)
           (no_commit (e.connections c) (done span more before answer []) span answer [] refl refl plain.commits_none)
+          (inr (part_of (e.connections c) span answer [], told_next (e.connections c) (done span more before answer []) span answer [] refl refl, λ low. plain.tells (schema_of e) (part_of (e.connections c) span answer [])))
 
     -- ---- options
 
@@ -163,8 +169,8 @@ module _ (e after : CoreState) (c : ℕ) (tied : IsTied e) (going : e.stop ≡ N
     answered_rests answer = ap (λ (z : ConnectionState). z.work) (here e c (record (with_answer (e.connections c).left (e.connections c) answer []) { work = None; request = None }))
 
     keeps_option : (x : CoreState) (now : IsTied x) → (x.connections c).work ≡ None → (k : ConnectionState) → k.transaction ≡ (x.connections c).transaction → k.left ≡ (x.connections c).left → k.work ≡ (x.connections c).work
-        → (IsTold (x.connections c) (parts_in (now.ghost.entries c)) → IsTold k (parts_in (now.ghost.entries c))) → commits_told k ≡ commits_told (x.connections c) → IsTied (with_connection c k x)
-    keeps_option x now rests k transaction left work tells commits = record {
+        → (IsTold (x.connections c) (parts_in (now.ghost.entries c)) → IsTold k (parts_in (now.ghost.entries c))) → commits_told k ≡ commits_told (x.connections c) → parts_told k ≡ parts_told (x.connections c) → IsTied (with_connection c k x)
+    keeps_option x now rests k transaction left work tells commits same_parts = record {
       ghost = now.ghost;
       ties = with_tied x now.ghost c k now.ties (record {
         standing = stands_still;
@@ -174,6 +180,7 @@ module _ (e after : CoreState) (c : ℕ) (tied : IsTied e) (going : e.stop ≡ N
         meets = λ on. subst (MeetsWith now.ghost.state c) (sym work) (now.ties.meets on c);
         told = tells (now.ties.told c);
         commits = commits;
+        adds = inl same_parts;
         outside = λ out. let is = now.ties.outside c out in record { no_transaction = transaction ∙ is.no_transaction; none_left = left ∙ is.none_left };
       });
     }
@@ -187,18 +194,18 @@ module _ (e after : CoreState) (c : ℕ) (tied : IsTied e) (going : e.stop ≡ N
     -- ---- COMMIT and ROLLBACK
 
     commits : (moment : ℕ) (t : Option OpenTransaction) → parsed_at (e.connections c).script span ≡ Ok s.Commit → (e.connections c).transaction ≡ t → IsSame (committed c moment t e) after → IsTied after
-    commits moment None read at same = same_tied (answered c e (Given reply.NothingToCommit) []) after (quiet_none s.Commit read (Given reply.NothingToCommit) refl refl (λ d p. refl) at) same
+    commits moment None read at same = same_tied (answered c e (Given reply.NothingToCommit) []) after (quiet_none s.Commit read (Given reply.NothingToCommit) refl refl (λ d p. refl) (λ d p. tt) at) same
     commits moment (Some o) read at same = commit_tied e after c tied going resting o at span more first_left s.Commit read moment same
 
     rolls_back : (t : Option OpenTransaction) → parsed_at (e.connections c).script span ≡ Ok s.Rollback → (e.connections c).transaction ≡ t → IsTied (answered c (rolled_back c e) (Given reply.RolledBack) [])
     rolls_back (Some o) read at = rollback_tied e tied.ghost tied.ties c resting o at span more first_left s.Rollback read
-    rolls_back None read at = subst (λ (z : CoreState). IsTied (answered c z (Given reply.RolledBack) [])) (sym (ap (λ t. rolled_back_from c t e) at)) (quiet_none s.Rollback read (Given reply.RolledBack) refl refl (λ d p. refl) at)
+    rolls_back None read at = subst (λ (z : CoreState). IsTied (answered c z (Given reply.RolledBack) [])) (sym (ap (λ t. rolled_back_from c t e) at)) (quiet_none s.Rollback read (Given reply.RolledBack) refl refl (λ d p. refl) (λ d p. tt) at)
 
     -- ---- savepoints
 
     module _ (written : Statement) (read : parsed_at (e.connections c).script span ≡ Ok written) (opening : opens written ≡ true) where
       no_savepoint : (name : Name) → has_meaning written ≡ false → IsTied (answered c (opened c e) (Refused (NoSavepoint name)) [])
-      no_savepoint name none = opens_one written read (transaction_of c e) refl (Refused (NoSavepoint name)) opening (record { done = refl; lasts = refl; commits_none = λ d p. refl }) (λ f t is. no_meaning (e.connections c) span (Refused (NoSavepoint name)) written read none t)
+      no_savepoint name none = opens_one written read (transaction_of c e) refl (Refused (NoSavepoint name)) opening (record { done = refl; lasts = refl; commits_none = λ d p. refl; tells = λ d p. tt }) (λ f t is. no_meaning (e.connections c) span (Refused (NoSavepoint name)) written read none t)
 
       goes_back : (name : Name) → has_meaning written ≡ false → (saves : List (Name × ℕ)) → IsTied (back_to c name saves e)
       goes_back name none [] = no_savepoint name none
@@ -206,7 +213,7 @@ module _ (e after : CoreState) (c : ℕ) (tied : IsTied e) (going : e.stop ≡ N
 
       releases : (name : Name) → has_meaning written ≡ false → (saves : List (Name × ℕ)) → IsTied (released c name saves e)
       releases name none [] = no_savepoint name none
-      releases name none (save ∷ earlier) = opens_one written read (record (transaction_of c e) { savepoints = earlier }) refl (Given reply.Released) opening (record { done = refl; lasts = refl; commits_none = λ d p. refl })
+      releases name none (save ∷ earlier) = opens_one written read (record (transaction_of c e) { savepoints = earlier }) refl (Given reply.Released) opening (record { done = refl; lasts = refl; commits_none = λ d p. refl; tells = λ d p. tt })
           (λ f t is. says_nothing (e.connections c) span (Given reply.Released) refl t)
 
       -- ---- statements on rows
@@ -216,7 +223,7 @@ module _ (e after : CoreState) (c : ℕ) (tied : IsTied e) (going : e.stop ≡ N
         where
           by : (r : Result Statement Refusal) → check (schema_of e) written ≡ r → IsSame (begun c (opened c e) r).1 after → IsTied after
           by (Err refusal) at same = same_tied (answered c (opened c e) (Refused refusal) []) after
-              (opens_one written read (transaction_of c e) refl (Refused refusal) opening (record { done = refl; lasts = refl; commits_none = λ d p. refl }) (check_refuses (schema_of e) (e.connections c) span written refusal read at)) same
+              (opens_one written read (transaction_of c e) refl (Refused refusal) opening (record { done = refl; lasts = refl; commits_none = λ d p. refl; tells = λ d p. tt }) (check_refuses (schema_of e) (e.connections c) span written refusal read at)) same
           by (Ok x) at same = begun_tied e after c tied resting span more first_left written read x at (checked_stepped (schema_of e) written x at stepped) same
 
     -- ---- schema statements
@@ -233,7 +240,7 @@ module _ (e after : CoreState) (c : ℕ) (tied : IsTied e) (going : e.stop ≡ N
 
     module _ (written : Statement) (read : parsed_at (e.connections c).script span ≡ Ok written) (schema : changes_schema written ≡ true) where
       refused_none : (refusal : Refusal) (r : Meant) → r ≡ meant.Refused refusal → (e.connections c).transaction ≡ None → IsTied (answered c e (answer_saying 0 r) [])
-      refused_none refusal r is at = subst (λ z. IsTied (answered c e (answer_saying 0 z) [])) (sym is) (quiet_none written read (Refused refusal) (opens_none written schema) refl (λ d p. refl) at)
+      refused_none refusal r is at = subst (λ z. IsTied (answered c e (answer_saying 0 z) [])) (sym is) (quiet_none written read (Refused refusal) (opens_none written schema) refl (λ d p. refl) (λ d p. tt) at)
 
       alters : ((d : ℕ) → IsOpen e d → ⊥) → Alters c e written after → IsTied after
       alters none (inl h) = ⊎_elim
@@ -249,26 +256,26 @@ module _ (e after : CoreState) (c : ℕ) (tied : IsTied e) (going : e.stop ≡ N
           (schema_meant e.now written schema)
 
       schema_step : IsSchemaStep c e written after → IsTied after
-      schema_step (inl h) = same_tied (answered c e (TransactionIsOpen h.0) []) after (said_nothing written read (TransactionIsOpen h.0) (opens_none written schema) (record { done = refl; lasts = refl; commits_none = λ d p. refl }) refl) h.2
+      schema_step (inl h) = same_tied (answered c e (TransactionIsOpen h.0) []) after (said_nothing written read (TransactionIsOpen h.0) (opens_none written schema) (record { done = refl; lasts = refl; commits_none = λ d p. refl; tells = λ d p. tt }) refl) h.2
       schema_step (inr h) = alters h.0 h.1
 
     option_set : (written : Statement) → parsed_at (e.connections c).script span ≡ Ok written → opens written ≡ false → IsTied (answered c e (Given reply.OptionSet) [])
-    option_set written read opens_none = said_nothing written read (Given reply.OptionSet) opens_none (record { done = refl; lasts = refl; commits_none = λ d p. refl }) refl
+    option_set written read opens_none = said_nothing written read (Given reply.OptionSet) opens_none (record { done = refl; lasts = refl; commits_none = λ d p. refl; tells = λ d p. tt }) refl
 
     -- ---- all of them
 
     starts : (x : Statement) → parsed_at (e.connections c).script span ≡ Ok x → (a : Progressed) → Starts c e x a after → IsTied after
     starts (s.SetLevel level) read a h = same_tied (with_level c level (answered c e (Given reply.OptionSet) [])) after
         (keeps_option (answered c e (Given reply.OptionSet) []) (option_set (s.SetLevel level) read refl) (answered_rests (Given reply.OptionSet)) (record ((answered c e (Given reply.OptionSet) []).connections c) { level = level }) refl refl refl
-        (λ t. record { goes = t.goes; open_parts = t.open_parts; opens = t.opens }) refl) h.1
+        (λ t. record { goes = t.goes; open_parts = t.open_parts; opens = t.opens }) refl refl) h.1
     starts (s.SetBlocking on) read a h = same_tied (with_blocking c on (answered c e (Given reply.OptionSet) [])) after
         (keeps_option (answered c e (Given reply.OptionSet) []) (option_set (s.SetBlocking on) read refl) (answered_rests (Given reply.OptionSet)) (record ((answered c e (Given reply.OptionSet) []).connections c) { blocking = on }) refl refl refl
-        (λ t. record { goes = t.goes; open_parts = t.open_parts; opens = t.opens }) refl) h.1
-    starts s.Checkpoint read a h = same_tied (answered c e (Given reply.Checkpointed) []) after (said_nothing s.Checkpoint read (Given reply.Checkpointed) refl (record { done = refl; lasts = refl; commits_none = λ d p. refl }) refl) h.1
+        (λ t. record { goes = t.goes; open_parts = t.open_parts; opens = t.opens }) refl refl) h.1
+    starts s.Checkpoint read a h = same_tied (answered c e (Given reply.Checkpointed) []) after (said_nothing s.Checkpoint read (Given reply.Checkpointed) refl (record { done = refl; lasts = refl; commits_none = λ d p. refl; tells = λ d p. tt }) refl) h.1
     starts s.Commit read a h = commits h.1 (e.connections c).transaction read refl h.2
     starts s.Rollback read a h = same_tied (answered c (rolled_back c e) (Given reply.RolledBack) []) after (rolls_back (e.connections c).transaction read refl) h.1
     starts (s.Savepoint name) read a h = same_tied (answered c (with_transaction c (with_savepoint name (transaction_of c e)) e) (Given reply.Savepoint) []) after
-        (opens_one (s.Savepoint name) read (with_savepoint name (transaction_of c e)) refl (Given reply.Savepoint) refl (record { done = refl; lasts = refl; commits_none = λ d p. refl }) (λ f t is. says_nothing (e.connections c) span (Given reply.Savepoint) refl t)) h.1
+        (opens_one (s.Savepoint name) read (with_savepoint name (transaction_of c e)) refl (Given reply.Savepoint) refl (record { done = refl; lasts = refl; commits_none = λ d p. refl; tells = λ d p. tt }) (λ f t is. says_nothing (e.connections c) span (Given reply.Savepoint) refl t)) h.1
     starts (s.RollbackTo name) read a h = same_tied (back_to c name (saves_from c name e) e) after (goes_back (s.RollbackTo name) read refl name refl (saves_from c name e)) h.1
     starts (s.Release name) read a h = same_tied (released c name (saves_from c name e) e) after (releases (s.Release name) read refl name refl (saves_from c name e)) h.1
     starts (s.CreateTable name elements) read a h = schema_step (s.CreateTable name elements) read refl h.1
@@ -283,5 +290,5 @@ module _ (e after : CoreState) (c : ℕ) (tied : IsTied e) (going : e.stop ≡ N
     reads a = by (parsed_at (e.connections c).script span) refl
       where
         by : (r : Result Statement ℕ) → parsed_at (e.connections c).script span ≡ r → IsRead c e r a after → IsTied after
-        by (Err at) failed h = same_tied (answered c e (Refused (Syntax at)) []) after (unread (Refused (Syntax at)) at failed (λ d p. refl)) h.1
+        by (Err at) failed h = same_tied (answered c e (Refused (Syntax at)) []) after (unread (Refused (Syntax at)) at failed (λ d p. refl) (λ d p. tt)) h.1
         by (Ok x) read h = starts x read a h

@@ -1,5 +1,5 @@
 -- The core stays tied after a stop.
-use Rattle.std.proofs.Common.{◌≡◌, ℕ, true, List, [], ◌∷◌, Option, Some, None, refl, sym, subst}
+use Rattle.std.proofs.Common.{◌≡◌, ℕ, true, List, [], ◌∷◌, Option, Some, None, refl, sym, subst, inl, inr}
 use Rattle.wat_parse.specs.declared.script.Span.{Span}
 use Rattle.wat_parse.specs.Parsing.{parsed_at}
 use Rattle.wat_conn.specs.declared.answer.Reason.{Reason}
@@ -12,7 +12,7 @@ use Rattle.wat_tied.specs.Tied.{AreStanding, standing_in, IsIdle, parts_in, IsIn
 use Rattle.wat_tied.specs.Told.{stands_told, commits_told, IsTold}
 use Rattle.wat_tied.proofs.Renewed.{has_work}
 use Rattle.wat_tied.proofs.Same.{same_ties}
-use Rattle.wat_tied.proofs.Telling.{no_commit, told_stays, undone_stays, told_ended}
+use Rattle.wat_tied.proofs.Telling.{AddsPlain, told_next, no_commit, told_stays, undone_stays, told_ended}
 use Rattle.wat_tied.proofs.Updated.{with_tied}
 
 no_none : (reason : Reason) (stop : Option Reason) → stop ≡ Some reason → stop ≡ None → ⊥
@@ -20,8 +20,8 @@ no_none reason stop e f = cc
 
 -- where a connection changes neither its transaction nor its work after a stop
 still_tied : (e : CoreState) (g : Ghost) (c : ℕ) (reason : Reason) → e.stop ≡ Some reason → Ties e g → (k : ConnectionState) → k.transaction ≡ (e.connections c).transaction → k.work ≡ (e.connections c).work
-    → ((IsInside e c → ⊥) → IsAbsent k) → IsTold k (parts_in (g.entries c)) → commits_told k ≡ commits_told (e.connections c) → Ties (with_connection c k e) g
-still_tied e g c reason stopped ties k transaction work outside told commits =
+    → ((IsInside e c → ⊥) → IsAbsent k) → IsTold k (parts_in (g.entries c)) → commits_told k ≡ commits_told (e.connections c) → AddsPlain (schema_of e) (e.connections c) k → Ties (with_connection c k e) g
+still_tied e g c reason stopped ties k transaction work outside told commits adds =
     with_tied e g c k ties (record {
       standing =
           subst (λ (t : Option OpenTransaction). AreStanding (schema_of e) (standing_in t k.work) (g.state.conns c).standing) (sym transaction)
@@ -30,6 +30,7 @@ still_tied e g c reason stopped ties k transaction work outside told commits =
       outside = outside;
       told = told;
       commits = commits;
+      adds = adds;
       works = λ going. absurd (no_none reason e.stop stopped going);
       meets = λ going. absurd (no_none reason e.stop stopped going);
     })
@@ -38,12 +39,13 @@ stays : (e after : CoreState) (c : ℕ) (a : Progressed) (reason : Reason) (left
 stays e after c a reason [] g is stopped ties h =
     let k : ConnectionState = record (e.connections c) { has_ended = true } in
     same_ties (with_connection c k e) after g h.1 (still_tied e g c reason stopped ties k refl refl (λ out. let absent = ties.outside c out in record { no_transaction = absent.no_transaction; none_left = absent.none_left })
-    (told_ended (e.connections c) (parts_in (g.entries c)) is) refl)
+    (told_ended (e.connections c) (parts_in (g.entries c)) is) refl (inl refl))
 stays e after c a reason (span ∷ more) g is stopped ties h =
     let k : ConnectionState = with_answer (span ∷ more) (e.connections c) (Stopped reason) [] in
     same_ties (with_connection c k e) after g h.1 (still_tied e g c reason stopped ties k refl refl (λ out. absurd (has_work e g ties c span more is out))
     (told_stays (e.connections c) k span (Stopped reason) [] refl refl more is (parts_in (g.entries c)) (ties.told c) refl (undone_stays (stands_told (e.connections c)) (record { read = parsed_at (e.connections c).script span; entry = entry_at span (e.connections c).level (Stopped reason) [] }) refl) refl (λ w. w))
-    (no_commit (e.connections c) k span (Stopped reason) [] refl refl (λ d p. refl)))
+    (no_commit (e.connections c) k span (Stopped reason) [] refl refl (λ d p. refl))
+    (inr (record { read = parsed_at (e.connections c).script span; entry = entry_at span (e.connections c).level (Stopped reason) [] }, told_next (e.connections c) k span (Stopped reason) [] refl refl, λ low. tt)))
 
 pub stopped_tied : (e after : CoreState) (c : ℕ) (a : Progressed) (reason : Reason) → IsTied e → e.stop ≡ Some reason → IsStep e c a after → IsTied after
 unfolding IsStep
@@ -66,6 +68,7 @@ stop_ties e g reason ties = record {
   parts = ties.parts;
   serial = ties.serial;
   told = ties.told;
+  plain = ties.plain;
   history = record { all = ties.history.all; numbers = ties.history.numbers; moments = ties.history.moments };
   outside = λ c out. ties.outside c (λ i. out (record { from_one = i.from_one; within = i.within }));
   works = λ going. absurd (no_none reason (Some reason) refl going);

@@ -1,5 +1,5 @@
 -- What an entry tells of its connection's transaction, and of the commits.
-use Rattle.std.proofs.Common.{◌≡◌, ℕ, zero, suc, ◌+◌, ◌≤◌, ◌<◌, Bool, true, false, is_some, List, [], ◌∷◌, ◌++◌, map, length, ◌⊎◌, Option, Some, None, Result, Ok, Err, if◌then◌else◌, IsPermutation, refl, sym, ap, ◌∙◌, subst, inl, inr, ⊎_elim, arith}
+use Rattle.std.proofs.Common.{◌≡◌, ℕ, zero, suc, ◌+◌, ◌≤◌, ◌<◌, Bool, true, false, is_some, List, [], ◌∷◌, ◌++◌, map, length, take, unwrap_or, ◌⊎◌, Option, Some, None, Result, Ok, Err, if◌then◌else◌, IsPermutation, refl, sym, ap, ◌∙◌, subst, inl, inr, ⊎_elim, arith}
 use Rattle.std.specs.List.{fold, flat_map, range_with_len}
 use Rattle.std.specs.Option.{option_map}
 use Rattle.std.proofs.lemmas.Bool.{both_ways, cases_eq}
@@ -9,14 +9,20 @@ use Rattle.wat_value.specs.declared.change.Act.{Act}
 use Rattle.wat_ast.specs.declared.statement.Statement.{Statement}
 use Rattle.wat_parse.specs.declared.script.Span.{Span}
 use Rattle.wat_parse.specs.Parsing.{parsed_at}
+use Rattle.wat_list.specs.Has.{Has}
+use Rattle.wat_list.proofs.Members.{has_cases}
+use Rattle.wat_schema.specs.Catalog.{Catalog}
+use Rattle.wat_schema.specs.Tables.{Tables, catalog_of, apply_all}
 use Rattle.wat_conn.specs.declared.answer.Answer.{Answer}
+use Rattle.wat_history.specs.Plain.{IsPlainAnswer as IsPlainTold, Plain, PlainAfterSome}
+use Rattle.wat_history.specs.Serial.{after}
 use Rattle.wat_history.specs.Connection.{Part, Transaction, Connection, part_of, new_connection, with_part, opens, ends, running, after_answer, is_done, after_text, next, connection_after}
-use Rattle.wat_history.specs.History.{Commit, open_parts, committed_by, commits_from}
+use Rattle.wat_history.specs.History.{Commit, open_parts, effects, committed_by, commits_from}
 use Rattle.wat_scans.specs.Running.{Run}
 use Rattle.wat_steps.specs.State.{ConnectionState, CoreState}
 use Rattle.wat_steps.specs.Answering.{entry_at}
 use Rattle.wat_steps.specs.Statements.{next_number}
-use Rattle.wat_tied.specs.Told.{parts_told, stands_told, commits_told, all_told, IsTold, IsHistoryTold}
+use Rattle.wat_tied.specs.Told.{parts_told, stands_told, commits_told, all_told, IsTold, IsHistoryTold, ArePlainTold}
 
 fold_append : {A B : Type 0} (f : B → A → B) (b : B) (xs ys : List A) → fold f b (xs ++ ys) ≡ fold f (fold f b xs) ys
 fold_append f b [] ys = refl
@@ -26,6 +32,13 @@ fold_append f b (x ∷ xs) ys = fold_append f (f b x) xs ys
 
 -- an answer at which the transaction goes on, and that commits nothing
 pub record IsPlainAnswer (answer : Answer) : Type 0 where
+  pub done : is_done answer ≡ true
+  pub lasts : ends answer ≡ false
+  pub commits_none : (c : Connection) (p : Part) → committed_by c p answer ≡ []
+  pub tells : (c : Catalog) (p : Part) → IsPlainTold c p answer
+
+-- such an answer, whatever it tells
+pub record IsReplyAnswer (answer : Answer) : Type 0 where
   pub done : is_done answer ≡ true
   pub lasts : ends answer ≡ false
   pub commits_none : (c : Connection) (p : Part) → committed_by c p answer ≡ []
@@ -67,10 +80,10 @@ commits_append c (x ∷ xs) p =
 
 -- its transcript is longer by the entry
 module _ (k after : ConnectionState) (span : Span) (answer : Answer) (acts : List Act) (script : after.script ≡ k.script) (transcript : after.transcript ≡ k.transcript ++ entry_at span k.level answer acts ∷ []) where
-  abbrev p : Part
+  abbrev pub p : Part
   p = record { read = parsed_at k.script span; entry = entry_at span k.level answer acts }
 
-  told_next : parts_told after ≡ parts_told k ++ p ∷ []
+  pub told_next : parts_told after ≡ parts_told k ++ p ∷ []
   told_next = (λ j. map (part_of (script j)) (transcript j)) ∙ map-append (part_of k.script) k.transcript (entry_at span k.level answer acts ∷ [])
 
   pub stands_next : stands_told after ≡ next (stands_told k) p
@@ -286,3 +299,49 @@ told_ended k parts none = record { goes = λ s m e. absurd (no s m k.left none e
 
     ended : true ≡ false → ⊥
     ended e = cc
+
+-- ---- what the entries tell is plain
+
+-- nothing is told anew, or an entry that is plain
+abbrev pub AddsPlain : Catalog → ConnectionState → ConnectionState → Type 0
+AddsPlain cat old new = (parts_told new ≡ parts_told old) ⊎ ((p : Part) × (parts_told new ≡ parts_told old ++ p ∷ []) × Plain 3 cat p)
+
+take_whole : {A : Type 0} (xs : List A) (x : A) (count : ℕ) → count ≤ length xs → take count (xs ++ x ∷ []) ≡ take count xs
+take_whole xs x zero l = refl
+take_whole [] x (suc count) l = absurd (omega (arith, l))
+take_whole (y ∷ ys) x (suc count) l = ap (λ z. y ∷ z) (take_whole ys x count (omega (arith, l)))
+
+plain_longer : (base : Tables) (old : List Commit) (x : Commit) (p : Part) → PlainAfterSome 3 base old p → PlainAfterSome 3 base (old ++ x ∷ []) p
+plain_longer base old x p k = (
+  k.0,
+  (let l : k.0 ≤ length old = k.1 in let m : length (old ++ x ∷ []) ≡ length old + 1 = length_more old x in omega (arith, l, m)),
+  subst (λ h. Plain 3 (catalog_of (unwrap_or (apply_all (effects h) base) base)) p) (sym (take_whole old x k.0 k.1)) k.2,
+)
+
+-- where the connection's entries are plain by the history so far, so they are then
+pub adds_plain : (base : Tables) (old : List Commit) (cat : Catalog) → catalog_of (after base old (length old)) ≡ cat → (k new : ConnectionState) → AddsPlain cat k new
+    → ((p : Part) → Has p (parts_told k) → PlainAfterSome 3 base old p) → (p : Part) → Has p (parts_told new) → PlainAfterSome 3 base old p
+adds_plain base old cat is k new (inl same) plain p m = plain p (subst (Has p) same m)
+adds_plain base old cat is k new (inr a) plain p m = ⊎_elim
+    (λ (h : Has p (parts_told k)). plain p h)
+    (λ (h : Has p (a.0 ∷ [])). ⊎_elim
+    (λ (e : a.0 ≡ p). subst (PlainAfterSome 3 base old) e (length old, le_self (length old), subst (λ z. Plain 3 z a.0) (sym is) a.2))
+    (λ n. absurd n)
+    h)
+    (has_cases p (parts_told k) (a.0 ∷ []) (subst (Has p) a.1 m))
+  where
+    le_self : (n : ℕ) → n ≤ n
+    le_self n = omega arith
+
+pub plain_goes_on : (e after_it : CoreState) (c : ℕ) (cat : Catalog) (old new : List Commit) → after_it.base ≡ e.base → ((d : ℕ) → (d ≡ c → ⊥) → after_it.connections d ≡ e.connections d)
+    → catalog_of (after e.base old (length old)) ≡ cat → AddsPlain cat (e.connections c) (after_it.connections c) → IsContinued e after_it c (commits_told (e.connections c)) (commits_told (after_it.connections c)) old new
+    → ArePlainTold e old → ArePlainTold after_it new
+plain_goes_on e after_it c cat old new base there is adds more plain d p m =
+    subst (λ z. PlainAfterSome 3 z new p) (sym base) (longer more (⊎_elim
+    (λ (s : d ≡ c). adds_plain e.base old cat is (e.connections c) (after_it.connections c) adds (plain c) p (subst (λ n. Has p (parts_told (after_it.connections n))) s m))
+    (λ (ne : d ≡ c → ⊥). plain d p (subst (λ (z : ConnectionState). Has p (parts_told z)) (there d ne) m))
+    (cases_eq d c)))
+  where
+    longer : IsContinued e after_it c (commits_told (e.connections c)) (commits_told (after_it.connections c)) old new → PlainAfterSome 3 e.base old p → PlainAfterSome 3 e.base new p
+    longer (inl h) k = subst (λ z. PlainAfterSome 3 e.base z p) (sym h.1) k
+    longer (inr h) k = subst (λ z. PlainAfterSome 3 e.base z p) (sym h.3) (plain_longer e.base old h.0 p k)

@@ -8,6 +8,7 @@ use Rattle.wat_schema.specs.Tables.{Tables}
 use Rattle.wat_conn.specs.declared.session.Session.{Session}
 use Rattle.wat_history.specs.Connection.{Part, new_connection, parts_of}
 use Rattle.wat_history.specs.History.{Commit, IsHistory, commits_from, commits_of, connections_of, open_parts}
+use Rattle.wat_history.specs.Plain.{PlainAfterSome}
 use Rattle.wat_history.specs.Serial.{Follows, Serial}
 use Rattle.wat_steps.specs.State.{CoreState}
 use Rattle.wat_tied.specs.Told.{parts_told, stands_told, all_told, going_on, IsHistoryTold, IsSerialTold, IsSessionOf}
@@ -27,6 +28,7 @@ pub serial_told : (base : Tables) (e : CoreState) (tied : IsTied e) → e.base �
 serial_told base e tied is = record {
   is_history = tied.ties.history;
   serial = subst (λ (z : Tables). Serial 3 z tied.ghost.history e.committed) is tied.ties.serial;
+  plain = λ c p m. subst (λ (z : Tables). PlainAfterSome 3 z tied.ghost.history p) is (tied.ties.plain c p m);
   open_serial = each_follows e.committed (λ c. open_parts (stands_told (e.connections c))) (going_on e)
       (λ c m. open_follows e tied c (not-true (e.connections c).has_ended (has_filter (λ d. not (e.connections d).has_ended) c (range_with_len 1 e.count) m).1));
 }

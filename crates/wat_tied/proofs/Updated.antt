@@ -1,14 +1,18 @@
 -- The core stays tied where a step gives one connection's state anew.
-use Rattle.std.proofs.Common.{◌≡◌, ℕ, Bool, true, false, ◌==◌, if◌then◌else◌, List, Option, Some, None, refl, subst, eqb-true}
+use Rattle.std.proofs.Common.{◌≡◌, ℕ, Bool, true, false, ◌==◌, if◌then◌else◌, List, Option, Some, None, refl, subst, inl, eqb-true}
 use Rattle.wat_locks.specs.declared.want.Want.{Want}
 use Rattle.wat_scans.specs.Running.{Run}
 use Rattle.wat_steps.specs.State.{ConnectionState, CoreState, schema_of, with_connection}
 use Rattle.wat_steps.specs.Answering.{IsSame}
 use Rattle.wat_steps.specs.Asking.{asking}
 use Rattle.wat_tied.specs.Tied.{AreStanding, parts_in, standing_in, IsIdle, GoesWith, IsInside, IsAbsent, MeetsWith, Ghost, Ties, IsTied}
-use Rattle.wat_tied.specs.Told.{commits_told, IsTold}
+use Rattle.wat_tied.specs.Told.{parts_told, commits_told, IsTold}
 use Rattle.wat_tied.proofs.Same.{same_ties}
-use Rattle.wat_tied.proofs.Telling.{same_history}
+use Rattle.wat_list.specs.Has.{Has}
+use Rattle.wat_history.specs.Connection.{Part}
+use Rattle.wat_history.specs.Plain.{PlainAfterSome}
+use Rattle.wat_tied.proofs.Renewed.{catalog_now}
+use Rattle.wat_tied.proofs.Telling.{AddsPlain, adds_plain, same_history}
 
 -- what holds of this connection's new state and of the others' old ones holds of each
 pub each : (P : ℕ → ConnectionState → Type 0) (e : CoreState) (c : ℕ) (k : ConnectionState) → P c k → ((d : ℕ) → P d (e.connections d)) → (d : ℕ) → P d ((with_connection c k e).connections d)
@@ -27,6 +31,7 @@ pub record IsTiedConnection (e : CoreState) (g : Ghost) (c : ℕ) (k : Connectio
   pub outside : (IsInside e c → ⊥) → IsAbsent k
   pub told : IsTold k (parts_in (g.entries c))
   pub commits : commits_told k ≡ commits_told (e.connections c)
+  pub adds : AddsPlain (schema_of e) (e.connections c) k
 
 pub with_tied : (e : CoreState) (g : Ghost) (c : ℕ) (k : ConnectionState) → Ties e g → IsTiedConnection e g c k → Ties (with_connection c k e) g
 with_tied e g c k ties new = record {
@@ -40,6 +45,7 @@ with_tied e g c k ties new = record {
   serial = ties.serial;
   told = each (λ d x. IsTold x (parts_in (g.entries d))) e c k new.told ties.told;
   history = same_history e (with_connection c k e) g.history refl (each (λ d x. commits_told x ≡ commits_told (e.connections d)) e c k new.commits (λ d. refl)) refl ties.history;
+  plain = each (λ d x. (p : Part) → Has p (parts_told x) → PlainAfterSome 3 e.base g.history p) e c k (adds_plain e.base g.history (schema_of e) (catalog_now e g ties) (e.connections c) k new.adds (ties.plain c)) ties.plain;
   outside = each (λ d x. (IsInside (with_connection c k e) d → ⊥) → IsAbsent x) e c k (λ out. new.outside (λ i. out (record { from_one = i.from_one; within = i.within })))
       (λ d out. ties.outside d (λ i. out (record { from_one = i.from_one; within = i.within })));
   works = λ going. each (λ d x. GoesWith (schema_of e) x x.work (g.work d)) e c k (new.works going) (ties.works going);
@@ -84,5 +90,6 @@ waiting_tied e after c wants tied same = record {
         meets = λ going. tied.ties.meets going c;
         told = let t = tied.ties.told c in record { goes = t.goes; open_parts = t.open_parts; opens = t.opens };
         commits = refl;
+        adds = inl refl;
       }));
 }

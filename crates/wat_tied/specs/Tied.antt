@@ -35,7 +35,7 @@ use Rattle.wat_history.specs.History.{Commit}
 use Rattle.wat_history.specs.Serial.{Means, Serial}
 use Rattle.wat_steps.specs.State.{OpenTransaction, ConnectionState, VacantKey, CoreState, schema_of}
 use Rattle.wat_steps.specs.Visiting.{writes_rows}
-use Rattle.wat_tied.specs.Told.{IsTold, IsHistoryTold}
+use Rattle.wat_tied.specs.Told.{IsTold, IsHistoryTold, ArePlainTold}
 
 -- ---- rows, locks and vacant keys
 
@@ -224,6 +224,7 @@ pub record Ties (e : CoreState) (g : Ghost) : Type 0 where
   -- the transcripts tell of these entries and commits
   pub told : (c : ℕ) → IsTold (e.connections c) (parts_in (g.entries c))
   pub history : IsHistoryTold e g.history
+  pub plain : ArePlainTold e g.history
   pub outside : (c : ℕ) → (IsInside e c → ⊥) → IsAbsent (e.connections c)
   -- until a stop
   pub works : e.stop ≡ None → (c : ℕ) → GoesWith (schema_of e) (e.connections c) (e.connections c).work (g.work c)

@@ -1,11 +1,13 @@
 -- What the transcripts tell of the transactions.
 use Rattle.std.specs.Prelude.{◌≡◌, ℕ, false, is_some, List, ◌∷◌, map, length, not, None, IsPermutation}
 use Rattle.std.specs.List.{filter, flat_map, range_with_len}
+use Rattle.wat_list.specs.Has.{Has}
 use Rattle.wat_parse.specs.declared.script.Span.{Span}
 use Rattle.wat_history.specs.Connection.{Part, Connection, parts_of, new_connection, connection_after}
 use Rattle.wat_schema.specs.Tables.{Tables}
 use Rattle.wat_conn.specs.declared.session.Session.{Session}
 use Rattle.wat_history.specs.History.{Commit, commits_from, open_parts, entries_of}
+use Rattle.wat_history.specs.Plain.{PlainAfterSome}
 use Rattle.wat_history.specs.Serial.{Serial, OpenSerial}
 use Rattle.wat_steps.specs.State.{ConnectionState, CoreState}
 
@@ -37,6 +39,10 @@ pub record IsHistoryTold (e : CoreState) (history : List Commit) : Type 0 where
   pub numbers : map (λ commit. commit.number) history ≡ range_with_len 1 (length history)
   pub moments : length e.moments ≡ length history
 
+-- Each entry below level 3 is plain, by the schema after some of the commits.
+abbrev pub ArePlainTold : CoreState → List Commit → Type 0
+ArePlainTold e history = (c : ℕ) (p : Part) → Has p (parts_told (e.connections c)) → PlainAfterSome 3 e.base history p
+
 -- ---- the whole
 
 -- the connections that have not ended
@@ -54,8 +60,9 @@ pub record IsSessionOf (e : CoreState) (s : Session) : Type 0 where
   pub moments : s.moments.items ≡ e.moments
 
 -- The transcripts tell of one history of committed transactions, and it is serial at level 3 from these tables. What is open, until its connection
--- has ended, follows on it.
+-- has ended, follows on it. Each entry below level 3 is plain.
 pub record IsSerialTold (base : Tables) (e : CoreState) (history : List Commit) : Type 0 where
   pub is_history : IsHistoryTold e history
   pub serial : Serial 3 base history e.committed
   pub open_serial : OpenSerial 3 e.committed (open_told e)
+  pub plain : (c : ℕ) (p : Part) → Has p (parts_told (e.connections c)) → PlainAfterSome 3 base history p

@@ -137,7 +137,7 @@ pub fn ready_law()
 /// The transcripts tell of this history. After every list of steps from the beginning, the numbers that COMMIT, CREATE and DROP are answered order the
 /// committed transactions of all connections in one history, each once; over it each statement at level 3, and each CREATE and DROP, is answered
 /// what it means over the tables that the transactions before it and the earlier entries of its own leave. So is each that the connections which have
-/// not ended have open.
+/// not ended have open. Each entry below level 3 is plain by the schema after some of the transactions.
 pub fn transcripts_tell()
     ensures serial { (base : Tables) (scripts : List (List ℕ)) → IsTables base → (steps : List ℕ) (last : CoreState) → Runs (fresh base scripts) steps last → (history : List Commit) × IsSerialTold base last history }
     // of a session with these transcripts it is the history
