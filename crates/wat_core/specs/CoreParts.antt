@@ -1,8 +1,7 @@
 -- The connections and the locks of a state.
-use Rattle.std.specs.Prelude.{◌≡◌, ℕ, ◌-◌, List, length, slice_get, unwrap_or, None}
+use Rattle.std.specs.Prelude.{◌≡◌, ℕ, List, length}
 use Rattle.wat_list.specs.Has.{HasSame}
 use Rattle.wat_locks.specs.declared.held.Held.{Held}
-use Rattle.wat_steps.specs.Fresh.{connection_with}
 use Rattle.wat_steps.specs.State.{ConnectionState, CoreState}
 use Rattle.wat_core.specs.Parts.{connection_of}
 
@@ -16,7 +15,3 @@ pub record HasCore (e : CoreState) (parts : CoreParts) : Type 0 where
   pub count : e.count ≡ length parts.states
   pub connections : (c : ℕ) → e.connections c ≡ connection_of parts.states c
   pub held : HasSame parts.held e.held
-
--- the connection of that number
-abbrev pub state_at : CoreParts → ℕ → ConnectionState
-state_at parts c = connection_of parts.states c

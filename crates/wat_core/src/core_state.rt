@@ -1,11 +1,13 @@
-ghost use Rattle.std.specs.Prelude.{◌≡◌, ◌≤◌, ◌++◌, [], length, true, is_some, ℕ, IfOk, MatchOption, OnOk};
+ghost use Rattle.std.specs.Prelude.{◌≡◌, ◌≤◌, ◌<◌, ◌++◌, [], length, true, is_some, ℕ, Some, None, IfOk, MatchOption, OnOk};
+ghost use Rattle.std.specs.Option.{option_map};
 ghost use Rattle.wat_conn.specs.declared.answer.Answer.TheVariants.{Stopped};
 ghost use Rattle.wat_steps.specs.State.{CoreState, with_connection};
 ghost use Rattle.wat_steps.specs.Answering.{answered, ended, opened, transaction_of, with_answer, with_transaction};
 ghost use Rattle.wat_steps.specs.Asking.{going_on};
-ghost use Rattle.wat_steps.specs.Statements.{IsLeastOpen, IsOpen, with_blocking, with_level, with_savepoint};
+ghost use Rattle.wat_steps.specs.Statements.{IsLeastOpen, IsOpen, saves_from, with_blocking, with_level, with_savepoint};
 ghost use Rattle.wat_core.specs.CoreParts.{HasCore};
 ghost use Rattle.wat_core.specs.Parts.{HasParts};
+ghost use Rattle.wat_core.specs.Savepoints.{GoesBackAt, ReleasesAt};
 ghost use Rattle.wat_core.specs.Telling.{IsTold};
 
 use crate::asking::{Told, ask};
@@ -13,7 +15,7 @@ use crate::opened::first_open;
 use std::alloc::Global;
 use std::marker::Model;
 use wat_conn::{Answer, Reason};
-use wat_connection::Connection;
+use wat_connection::{Connection, Undone};
 use wat_exec::Run;
 use wat_list::NoMemory;
 use wat_locks::Wants;
@@ -177,5 +179,73 @@ impl Core {
         ensures { (e : CoreState) → HasCore e self.now → MatchOption result ((d : ℕ) → IsOpen e d → ⊥) (IsLeastOpen e) }
     {
         first_open(self.connections.as_slice())
+    }
+
+    /// These connections, of which none holds a lock.
+    pub fn of(alloc: Global, connections: Vec<Connection>) -> Self
+        requires { length connections.items < 65536 }
+        ensures { result ≡ record { states = connections.items; held = [] } }
+    {
+        Core {
+            connections,
+            locks: StatementLocks::new(alloc),
+        }
+    }
+
+    /// The connection of that number.
+    pub fn connection(&self, conn: u16) -> &Connection
+        requires from_one { 1 ≤ conn }
+        requires within { conn ≤ length self.now.states }
+        ensures { (e : CoreState) → HasCore e self.now → e.connections conn ≡ result.now }
+    {
+        let at = conn as usize - 1;
+        &self.connections[at]
+    }
+
+    /// Takes the connection's statement under way out.
+    pub fn take_work(&mut self, conn: u16) -> Option<Run>
+        requires from_one { 1 ≤ conn }
+        requires within { conn ≤ length self.old.states }
+        ensures work { (e : CoreState) → HasCore e self.old → option_map (λ run. run.run) result ≡ (e.connections conn).work }
+        ensures rest { (e : CoreState) → HasCore e self.old → HasCore (with_connection conn (record (e.connections conn) { work = None }) e) self.new }
+    {
+        let at = conn as usize - 1;
+        self.connections[at].take_work()
+    }
+
+    /// The connection has the statement under way.
+    pub fn put_work(&mut self, conn: u16, run: Run)
+        requires from_one { 1 ≤ conn }
+        requires within { conn ≤ length self.old.states }
+        ensures { (e : CoreState) → HasCore e self.old → HasCore (with_connection conn (record (e.connections conn) { work = Some run.run }) e) self.new }
+    {
+        let at = conn as usize - 1;
+        self.connections[at].put_work(run);
+    }
+
+    /// Goes back to the newest savepoint of the name in the connection's transaction, if there is one.
+    pub fn back_to(
+        &mut self,
+        alloc: Global,
+        conn: u16,
+        name: &Name,
+    ) -> Result<Option<Undone>, NoMemory>
+        requires from_one { 1 ≤ conn }
+        requires within { conn ≤ length self.old.states }
+        ensures { (e : CoreState) → HasCore e self.old → IfOk result (λ undone. GoesBackAt (saves_from conn name.now e) conn e undone self.new) }
+    {
+        let at = conn as usize - 1;
+        self.connections[at].back_to(alloc, name)
+    }
+
+    /// Releases the newest savepoint of the name in the connection's transaction and all later ones, and tells whether there
+    /// is one.
+    pub fn release(&mut self, alloc: Global, conn: u16, name: &Name) -> bool
+        requires from_one { 1 ≤ conn }
+        requires within { conn ≤ length self.old.states }
+        ensures { (e : CoreState) → HasCore e self.old → ReleasesAt (saves_from conn name.now e) conn e result self.new }
+    {
+        let at = conn as usize - 1;
+        self.connections[at].release(alloc, name)
     }
 }

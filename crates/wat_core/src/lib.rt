@@ -12,5 +12,5 @@ mod waiting;
 
 pub use asking::{Told, ask};
 pub use core_state::Core;
-pub use laws::blocked_law;
+pub use laws::{blocked_law, fresh_law, going_on_law};
 pub use waiting::requests;
