@@ -12,7 +12,6 @@ const COMMANDS: &str = "The commands, in the folder of the database:
   watsql run SCRIPT   does the statements of the file SCRIPT, and writes an answer for each
   watsql translate    writes the committed transactions as statements of SQL
   watsql dump         writes the tables and their rows as statements of SQL
-  watsql dump         writes the tables and their rows as statements of SQL
 ";
 
 // Whether rows were changed after the last commit, so that the changes are dropped.
